@@ -1,0 +1,147 @@
+-- Laws of `allBelow`, `sumBelow`, `firstBelow`, `foldBelow` and `listBelow`: what loops show, and what a passed test says at an index.
+--     all-next    one turn of a loop that keeps a flag
+--     all-at      an index of a test that passed
+--     sum-next    one turn of a running total
+--     first-next, first-found   one turn of a search, and its find
+--     first-at, first-upto      the index found passes, and none before it does
+--     fold-next   one turn of a fold
+--     list-at, list-filled      an entry of a list made of f, and a list that has f at each index
+-- Assumes nothing.
+use mathlib.Core.Path.{_≡_, refl, sym, _∙_, ap}
+use mathlib.Core.List.{List}
+use lib.ListN.{length, getD}
+use lib.Seq.{ext-getD}
+use mathlib.Core.Logic.{⊎-elim}
+use mathlib.Core.Bool.{Bool, true, false, cond, _&&_, _||_, not, false≢true}
+use Prim.Native.Nat.{ℕ, zero, suc, _+_, _*_, _≤_, _<_}
+use native.Mathlib.Nat.{le-of-suc-le-suc, not-suc-le-zero, eq-or-lt-of-le}
+use native.Mathlib.Numerals.{add-one}
+use native.Mathlib.Omega.{arith}
+use lib.Dec.{ltb}
+use borrow.Author.Tests.{lt-ltb, le-ltb, ltb-true, ltb-false}
+use Rattle.counts.specs.Below.{allBelow, sumBelow, firstBelow, foldBelow, listBelow}
+
+-- cases on a test, each with what the test says
+pub by-test : {X : Type 0} (t : Bool) → (t ≡ true → X) → (t ≡ false → X) → X
+by-test true h k = h refl
+by-test false h k = k refl
+
+pub by-cond : {A : Type 0} (F : A → Type 0) (t : Bool) {x y : A} → (t ≡ true → F x) → (t ≡ false → F y) → F (cond t x y)
+by-cond F true h k = h refl
+by-cond F false h k = k refl
+
+pub and-l : (a b : Bool) → (a && b) ≡ true → a ≡ true
+and-l true b e = refl
+and-l false b e = e
+
+pub and-r : (a b : Bool) → (a && b) ≡ true → b ≡ true
+and-r true b e = e
+and-r false b e = absurd (false≢true e)
+
+-- "if a then b", passed, where a holds; and "a or b" where a fails
+pub or-r : (a b : Bool) → (a || b) ≡ true → a ≡ false → b ≡ true
+or-r true b e f = absurd (false≢true (sym f ∙ e))
+or-r false b e f = e
+
+pub when-at : (a b : Bool) → (not a || b) ≡ true → a ≡ true → b ≡ true
+when-at true b e f = e
+when-at false b e f = absurd (false≢true f)
+
+module _ (p : ℕ → Bool) where
+  pub all-next : (i : ℕ) {b t : Bool} → b ≡ allBelow i p → t ≡ p i → (b && t) ≡ allBelow (i + 1) p
+  unfolding allBelow
+  all-next i e h = rw (add-one, e, h) refl
+
+  pub all-at : (i n : ℕ) → i < n → allBelow n p ≡ true → p i ≡ true
+  unfolding allBelow
+  all-at i zero h e = absurd (not-suc-le-zero h)
+  all-at i (suc n) h e =
+      ⊎-elim (λ (q : i ≡ n). rw q (and-r (allBelow n p) (p n) e)) (λ (l : i < n). all-at i n l (and-l (allBelow n p) (p n) e)) (eq-or-lt-of-le (le-of-suc-le-suc h))
+
+  pub first-next : (i : ℕ) {b : Bool} → i ≡ firstBelow i p → b ≡ p i → b ≡ false → i + 1 ≡ firstBelow (i + 1) p
+  unfolding firstBelow
+  first-next i e h f = rw (add-one, ← e, le-ltb i i (omega arith), ← h, f) refl
+
+  first-stop : (i n : ℕ) → i < n → i ≡ firstBelow i p → p i ≡ true → i ≡ firstBelow n p
+  unfolding firstBelow
+  first-stop i zero l e t = absurd (not-suc-le-zero l)
+  first-stop i (suc n) l e t =
+      ⊎-elim (λ (q : i ≡ n). rw (← q, ← e, le-ltb i i (omega arith), t) refl)
+      (λ (m : i < n). rw (← first-stop i n m e t, lt-ltb i n m) refl)
+      (eq-or-lt-of-le (le-of-suc-le-suc l))
+
+  pub first-found : {i n m : ℕ} {b : Bool} → i < n → n ≡ m → i ≡ firstBelow i p → b ≡ p i → b ≡ true → i ≡ firstBelow m p
+  first-found {i} {n} l q e h t = rw q at (first-stop i n l e (sym h ∙ t))
+
+  first-step : (n f : ℕ) (a b : Bool) → ltb f n ≡ a → p n ≡ b → (f < n → p f ≡ true) → cond a f (cond b n (suc n)) < suc n → p (cond a f (cond b n (suc n))) ≡ true
+  first-step n f true b e g h l = h (ltb-true f n e)
+  first-step n f false true e g h l = g
+  first-step n f false false e g h l = absurd (omega arith)
+
+  -- the index found passes
+  pub first-at : (n : ℕ) → firstBelow n p < n → p (firstBelow n p) ≡ true
+  unfolding firstBelow
+  first-at zero l = absurd (not-suc-le-zero l)
+  first-at (suc n) l = first-step n (firstBelow n p) (ltb (firstBelow n p) n) (p n) refl refl (first-at n) l
+
+  first-less : (n f : ℕ) (a b : Bool) → ltb f n ≡ a → f ≤ n → cond a f (cond b n (suc n)) ≤ suc n
+  first-less n f true b e h = omega arith
+  first-less n f false true e h = omega arith
+  first-less n f false false e h = omega arith
+
+  pub first-le : (n : ℕ) → firstBelow n p ≤ n
+  unfolding firstBelow
+  first-le zero = omega arith
+  first-le (suc n) = first-less n (firstBelow n p) (ltb (firstBelow n p) n) (p n) refl (first-le n)
+
+  some-step : (i n f : ℕ) (a b : Bool) → ltb f n ≡ a → (i ≡ n → b ≡ true) → (i < n → f ≤ i) → i ≤ n → cond a f (cond b n (suc n)) ≤ i
+  some-step i n f true b e g h l = ⊎-elim (λ (q : i ≡ n). omega (arith, ltb-true f n e)) (λ (m : i < n). h m) (eq-or-lt-of-le l)
+  some-step i n f false b e g h l =
+      ⊎-elim (λ (q : i ≡ n). rw (g q) (omega arith)) (λ (m : i < n). absurd (omega (arith, ltb-false f n e, h m))) (eq-or-lt-of-le l)
+
+  -- an index that passes is not before the one found
+  pub first-upto : (i n : ℕ) → i < n → p i ≡ true → firstBelow n p ≤ i
+  unfolding firstBelow
+  first-upto i zero l e = absurd (not-suc-le-zero l)
+  first-upto i (suc n) l e =
+      some-step i n (firstBelow n p) (ltb (firstBelow n p) n) (p n) refl (λ (q : i ≡ n). rw q at e) (λ m. first-upto i n m e) (le-of-suc-le-suc l)
+
+pub sum-next : (f : ℕ → ℕ) (i : ℕ) {s x : ℕ} → s ≡ sumBelow i f → x ≡ f i → s + x ≡ sumBelow (i + 1) f
+unfolding sumBelow
+sum-next f i e h = rw (add-one, e, h) refl
+
+-- a sum up to an index, with its own term, is at most the whole
+pub sum-part : (f : ℕ → ℕ) (i n : ℕ) → i < n → sumBelow i f + f i ≤ sumBelow n f
+unfolding sumBelow
+sum-part f i zero h = absurd (not-suc-le-zero h)
+sum-part f i (suc n) h =
+    ⊎-elim (λ (q : i ≡ n). rw q (omega arith)) (λ (l : i < n). let z = sum-part f i n l in omega arith) (eq-or-lt-of-le (le-of-suc-le-suc h))
+
+-- a sum taken from the front
+pub sum-front : (f : ℕ → ℕ) (n : ℕ) → sumBelow (suc n) f ≡ f 0 + sumBelow n (λ k. f (suc k))
+unfolding sumBelow
+sum-front f zero = omega arith
+sum-front f (suc n) = let z = sum-front f n in let w : sumBelow (suc n) f ≡ sumBelow n f + f n = refl in omega arith
+
+-- one turn of a fold
+pub fold-next : {A : Type 0} (f : ℕ → A → A) (i : ℕ) (a : A) {s r : A} → s ≡ foldBelow i f a → r ≡ f i s → r ≡ foldBelow (i + 1) f a
+unfolding foldBelow
+fold-next f i a e h = rw (add-one, ← e) h
+
+-- lists made of f
+
+length-listBelow : (n : ℕ) (f : ℕ → ℕ) → length (listBelow n f) ≡ n
+unfolding listBelow
+length-listBelow zero f = refl
+length-listBelow (suc n) f = ap suc (length-listBelow n (λ k. f (suc k)))
+
+pub list-at : (n : ℕ) (f : ℕ → ℕ) (k : ℕ) → k < n → getD (listBelow n f) k 0 ≡ f k
+unfolding listBelow
+list-at zero f k h = absurd (not-suc-le-zero h)
+list-at (suc n) f zero h = refl
+list-at (suc n) f (suc k) h = list-at n (λ i. f (suc i)) k (le-of-suc-le-suc h)
+
+pub list-filled : (f : ℕ → ℕ) (n : ℕ) (t : List ℕ) → length t ≡ n → ((k : ℕ) → k < n → getD t k 0 ≡ f k) → t ≡ listBelow n f
+list-filled f n t l h =
+    ext-getD 0 t (listBelow n f) (l ∙ sym (length-listBelow n f))
+    (λ k b. let b' : k < n = omega arith in h k b' ∙ sym (list-at n f k b'))

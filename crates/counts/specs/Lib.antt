@@ -1,0 +1,2 @@
+-- What rules, sums and searches over indexes are made of.
+pub mod Below

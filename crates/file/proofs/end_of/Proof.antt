@@ -1,0 +1,18 @@
+-- `file::end_of` meets its contract.
+-- Assumes nothing.
+use native.Mathlib.Omega.{arith}
+use Rattle.file.proofs.Laws.{product}
+use borrow.Author.Needs.{needs}
+use Rattle.file.proofs.end_of.Statement.{statement}
+use Rattle.file.proofs.end_of.Tie as tie
+
+mul-result : tie.Need-mul-result
+mul-result c = omega (arith, product (c .before .count-of .ensures .small) (c .size-of .ensures .1))
+
+add-result : tie.Need-add-result
+add-result c = omega (arith, product (c .before .count-of .ensures .small) (c .size-of .ensures .1))
+
+pub end-of-spec : {M : Type 1} → statement M
+end-of-spec =
+    tie.close
+    (tie.spec (λ c κs. search needs) (λ c κs. search needs) (λ c κs. search needs) mul-result add-result (λ c. cc))

@@ -1,0 +1,34 @@
+-- `file::sections_ok` meets its contract. The invariant: the flag is the test of every section passed.
+-- Assumes nothing.
+use Prim.Native.Nat.{_≤_, _-_}
+use mathlib.Core.Path.{_≡_}
+use native.Mathlib.Omega.{arith}
+use borrow.Author.Needs.{needs}
+use Rattle.counts.specs.Below.{allBelow}
+use Rattle.counts.proofs.Laws.{all-next}
+use Rattle.file.specs.Sections.{sectionOk}
+use Rattle.file.proofs.sections_ok.Statement.{statement}
+use Rattle.file.proofs.sections_ok.Tie as tie
+
+abbrev Inv-loop : tie.InvT-loop
+Inv-loop d ok₀ k₀ ok k = (k ≤ 8) × (ok ≡ allBelow k (sectionOk d))
+
+abbrev μ-loop : tie.MeasureT-loop
+μ-loop d ok₀ k₀ ok k = 8 - k
+
+loop-holds : tie.Need-loop-holds Inv-loop μ-loop
+unfolding allBelow
+loop-holds c = search needs
+
+loop-again : tie.Need-loop-again Inv-loop μ-loop
+loop-again c = (omega arith, all-next _ _ (c .before .before .loop .inv .1) (c .section-ok .ensures))
+
+returns : tie.Need-returns Inv-loop μ-loop
+returns c =
+    let e : c .before .loop .k ≡ 8 = omega arith in
+    cc
+
+pub sections-ok-spec : {M : Type 1} → statement M
+sections-ok-spec =
+    tie.close
+    (tie.spec Inv-loop μ-loop loop-holds (λ c κs. omega arith) (λ c. omega arith) (λ c. omega arith) loop-again returns)

@@ -1,0 +1,13 @@
+-- `file::start_of` meets its contract, from the number at its place.
+-- Assumes nothing.
+use borrow.Author.Needs.{needs}
+use Rattle.file.proofs.start_of.Statement.{statement}
+use Rattle.file.proofs.start_of.Tie as tie
+
+returns : tie.Need-returns
+returns c = record { is = cc; small = search needs }
+
+pub start-of-spec : {M : Type 1} → statement M
+start-of-spec =
+    tie.close
+    (tie.spec (λ c κs. search needs) (λ c. search needs) (λ c. search needs) (λ c κs. search needs) returns)

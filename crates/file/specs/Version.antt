@@ -1,0 +1,33 @@
+-- What a version of the description file sets: sections, entry sizes and limits. There is one version so far, so none of them looks at it yet.
+use Prim.Native.Nat.{ℕ, _+_, _*_}
+use mathlib.Core.Bool.{Bool}
+use mathlib.Core.List.{List, [], _∷_}
+use lib.Dec.{eqb}
+use lib.ListN.{getD}
+
+-- "version 1"
+abbrev pub known : ℕ → Bool
+known v = eqb v 1
+
+-- "fields, controls, groups, lines, items, counters, addends, literal bytes"
+abbrev pub sections : ℕ → ℕ
+sections v = 8
+
+-- "start and entry count of each section in that order (16 numbers), then P, H, FD, LD, FT, line width W, record length R, version"
+abbrev pub trailerSize : ℕ → ℕ
+trailerSize v = 4 * sections v + 16
+
+-- bytes of an entry of section k: field 3 numbers, control 1, group 6, line 4, item 6, counter 4, addend 3; a literal's entry is a byte
+abbrev pub entrySize : ℕ → ℕ → ℕ
+entrySize v k = getD (6 ∷ 2 ∷ 12 ∷ 8 ∷ 12 ∷ 8 ∷ 6 ∷ 1 ∷ []) k 0
+
+-- "At most 32 fields, 8 controls, 32 groups, 128 lines, 512 items, 32 counters, 128 addends, 4,096 literal bytes."
+abbrev pub entryLimit : ℕ → ℕ → ℕ
+entryLimit v k = getD (32 ∷ 8 ∷ 32 ∷ 128 ∷ 512 ∷ 32 ∷ 128 ∷ 4096 ∷ []) k 0
+
+-- "W 1 to 132; R 1 to 256"
+abbrev pub widest : ℕ → ℕ
+widest v = 132
+
+abbrev pub longest : ℕ → ℕ
+longest v = 256

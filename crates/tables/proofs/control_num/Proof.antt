@@ -1,0 +1,11 @@
+-- `tables::control_num` meets its contract, at its section's start and size.
+-- Assumes nothing.
+use borrow.Author.Needs.{needs}
+use Rattle.tables.proofs.control_num.Statement.{statement}
+use Rattle.tables.proofs.control_num.Tie as tie
+
+returns : tie.Need-returns
+returns c = record { is = cc; small = search needs }
+
+pub control-num-spec : {M : Type 1} → statement M
+control-num-spec = tie.close (tie.spec (λ c κs. search needs) (λ c κs. search needs) returns)

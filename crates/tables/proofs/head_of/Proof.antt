@@ -1,0 +1,15 @@
+-- `tables::head_of` meets its contract, number by number.
+-- Assumes nothing.
+use borrow.Author.Needs.{needs}
+use Rattle.tables.proofs.Heads.{head-is}
+use Rattle.tables.proofs.head_of.Statement.{statement}
+use Rattle.tables.proofs.head_of.Tie as tie
+
+returns : tie.Need-returns
+returns c =
+    head-is _ (c .before .before .before .before .before .before .before .before .before .before .before .before .before .before .before .before .before .before .before .before .before .start16 .ensures) (c .before .before .before .before .before .before .before .before .before .before .before .before .before .before .before .before .before .before .before .before .start162 .ensures) (c .before .before .before .before .before .before .before .before .before .before .before .before .before .before .before .before .before .before .before .start163 .ensures) (c .before .before .before .before .before .before .before .before .before .before .before .before .before .before .before .before .before .before .start164 .ensures) (c .before .before .before .before .before .before .before .before .before .before .before .before .before .before .before .before .before .start165 .ensures) (c .before .before .before .before .before .before .before .before .before .before .before .before .before .before .before .before .start166 .ensures) (c .before .before .before .before .before .before .before .before .before .before .before .before .before .before .before .count16 .ensures) (c .before .before .before .before .before .before .before .before .before .before .before .before .before .before .count162 .ensures) (c .before .before .before .before .before .before .before .before .before .before .before .before .before .count163 .ensures) (c .before .before .before .before .before .before .before .before .before .before .before .before .count164 .ensures) (c .before .before .before .before .before .before .before .before .before .before .before .count165 .ensures) (c .before .before .before .before .before .before .before .before .before .before .count166 .ensures) (c .before .before .before .before .before .before .before .before .before .count167 .ensures) (c .before .before .before .before .before .before .before .before .count168 .ensures) (c .before .before .before .before .before .before .before .setting16 .ensures) (c .before .before .before .before .before .before .setting162 .ensures) (c .before .before .before .before .before .setting163 .ensures) (c .before .before .before .before .setting164 .ensures) (c .before .before .before .setting165 .ensures) (c .before .before .setting166 .ensures) (c .before .setting167 .ensures) (c .setting168 .ensures)
+
+pub head-of-spec : {M : Type 1} → statement M
+head-of-spec =
+    tie.close
+    (tie.spec (λ c κs. search needs) (λ c κs. search needs) (λ c κs. search needs) (λ c κs. search needs) (λ c κs. search needs) (λ c κs. search needs) (λ c κs. search needs) (λ c κs. search needs) (λ c κs. search needs) (λ c κs. search needs) (λ c κs. search needs) (λ c κs. search needs) (λ c κs. search needs) (λ c κs. search needs) (λ c κs. search needs) (λ c κs. search needs) (λ c κs. search needs) (λ c κs. search needs) (λ c κs. search needs) (λ c κs. search needs) (λ c κs. search needs) (λ c κs. search needs) returns)

@@ -1,0 +1,11 @@
+-- `tables::item_num` meets its contract, at its section's start and size.
+-- Assumes nothing.
+use borrow.Author.Needs.{needs}
+use Rattle.tables.proofs.item_num.Statement.{statement}
+use Rattle.tables.proofs.item_num.Tie as tie
+
+returns : tie.Need-returns
+returns c = record { is = cc; small = search needs }
+
+pub item-num-spec : {M : Type 1} → statement M
+item-num-spec = tie.close (tie.spec (λ c κs. search needs) (λ c κs. search needs) returns)

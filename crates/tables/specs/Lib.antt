@@ -1,0 +1,3 @@
+-- The tables of a description.
+pub mod Head
+pub mod Table

@@ -1,0 +1,136 @@
+-- The list of numbers of a description, and its entries. A number past the end counts as 0.
+use Prim.Native.Nat.{ℕ, _+_, _*_, _/_}
+use mathlib.Core.Bool.{cond}
+use mathlib.Core.List.{List}
+use lib.Dec.{ltb}
+use lib.ListN.{getD, take, drop}
+use Rattle.counts.specs.Below.{listBelow}
+use Rattle.file.specs.Number.{num}
+use Rattle.file.specs.Trailer.{start, count}
+use Rattle.tables.specs.declared.Head.{Head}
+
+-- every section but the literals has entries of whole numbers, so number i of them all is the two bytes at 2i
+abbrev pub slot : List ℕ → ℕ → ℕ
+slot d i = cond (ltb i (start d 7 / 2)) (num d (2 * i)) 0
+
+-- 4392 numbers are the most: 32 fields, 8 controls, 32 groups, 128 lines, 512 items, 32 counters, 128 addends
+unfoldable pub table : List ℕ → List ℕ
+table d = listBelow 4392 (slot d)
+
+-- the literal bytes
+unfoldable pub literals : List ℕ → List ℕ
+literals d = take (count d 7) (drop (start d 7) d)
+
+-- number j of entry i of the section at a place, whose entries have `size` numbers
+abbrev pub numberOf : List ℕ → ℕ → ℕ → ℕ → ℕ → ℕ
+numberOf t at size i j = getD t (at + size * i + j) 0
+
+-- "Field: kind (0 text, 1 number), offset, width."
+abbrev pub field : List ℕ → ℕ → ℕ → ℕ
+field t i j = numberOf t 0 3 i j
+
+abbrev pub fieldKind : List ℕ → ℕ → ℕ
+fieldKind t i = field t i 0
+
+abbrev pub fieldOffset : List ℕ → ℕ → ℕ
+fieldOffset t i = field t i 1
+
+abbrev pub fieldWidth : List ℕ → ℕ → ℕ
+fieldWidth t i = field t i 2
+
+-- "Control: field index, senior first; 65535 is FINAL."
+abbrev pub control : Head → List ℕ → ℕ → ℕ
+control h t i = numberOf t (h .cstart) 1 i 0
+
+abbrev pub final : ℕ
+final = 65535
+
+-- "Group: type .., level, first line, line count, next-group kind .., its integer."
+abbrev pub group : Head → List ℕ → ℕ → ℕ → ℕ
+group h t i j = numberOf t (h .gstart) 6 i j
+
+abbrev pub typeOf : Head → List ℕ → ℕ → ℕ
+typeOf h t i = group h t i 0
+
+abbrev pub levelOf : Head → List ℕ → ℕ → ℕ
+levelOf h t i = group h t i 1
+
+abbrev pub firstLine : Head → List ℕ → ℕ → ℕ
+firstLine h t i = group h t i 2
+
+abbrev pub lineCount : Head → List ℕ → ℕ → ℕ
+lineCount h t i = group h t i 3
+
+abbrev pub nextKind : Head → List ℕ → ℕ → ℕ
+nextKind h t i = group h t i 4
+
+abbrev pub nextBy : Head → List ℕ → ℕ → ℕ
+nextBy h t i = group h t i 5
+
+-- "Line: kind (0 absolute, 1 next page, 2 relative), integer, first item, item count."
+abbrev pub line : Head → List ℕ → ℕ → ℕ → ℕ
+line h t i j = numberOf t (h .lstart) 4 i j
+
+abbrev pub lineKind : Head → List ℕ → ℕ → ℕ
+lineKind h t i = line h t i 0
+
+abbrev pub lineInt : Head → List ℕ → ℕ → ℕ
+lineInt h t i = line h t i 1
+
+abbrev pub firstItem : Head → List ℕ → ℕ → ℕ
+firstItem h t i = line h t i 2
+
+abbrev pub itemCount : Head → List ℕ → ℕ → ℕ
+itemCount h t i = line h t i 3
+
+-- "Item: column, width, source kind (0 literal, 1 field, 2 page counter, 3 line counter, 4 sum), index (for a literal, its offset), decimals,
+-- indicate flag 0 or 1."
+abbrev pub item : Head → List ℕ → ℕ → ℕ → ℕ
+item h t i j = numberOf t (h .istart) 6 i j
+
+abbrev pub itemColumn : Head → List ℕ → ℕ → ℕ
+itemColumn h t i = item h t i 0
+
+abbrev pub itemWidth : Head → List ℕ → ℕ → ℕ
+itemWidth h t i = item h t i 1
+
+abbrev pub itemKind : Head → List ℕ → ℕ → ℕ
+itemKind h t i = item h t i 2
+
+abbrev pub itemIndex : Head → List ℕ → ℕ → ℕ
+itemIndex h t i = item h t i 3
+
+abbrev pub itemDecimals : Head → List ℕ → ℕ → ℕ
+itemDecimals h t i = item h t i 4
+
+abbrev pub itemFlag : Head → List ℕ → ℕ → ℕ
+itemFlag h t i = item h t i 5
+
+-- "Counter: group, reset level, first addend, addend count."
+abbrev pub counter : Head → List ℕ → ℕ → ℕ → ℕ
+counter h t i j = numberOf t (h .kstart) 4 i j
+
+abbrev pub counterGroup : Head → List ℕ → ℕ → ℕ
+counterGroup h t i = counter h t i 0
+
+abbrev pub resetLevel : Head → List ℕ → ℕ → ℕ
+resetLevel h t i = counter h t i 1
+
+abbrev pub firstAddend : Head → List ℕ → ℕ → ℕ
+firstAddend h t i = counter h t i 2
+
+abbrev pub addendCount : Head → List ℕ → ℕ → ℕ
+addendCount h t i = counter h t i 3
+
+-- "Addend: kind (0 field, 1 counter), index, detail mask (bit i for detail i)."
+abbrev pub addend : Head → List ℕ → ℕ → ℕ → ℕ
+addend h t i j = numberOf t (h .astart) 3 i j
+
+abbrev pub addendKind : Head → List ℕ → ℕ → ℕ
+addendKind h t i = addend h t i 0
+
+abbrev pub addendIndex : Head → List ℕ → ℕ → ℕ
+addendIndex h t i = addend h t i 1
+
+abbrev pub addendMask : Head → List ℕ → ℕ → ℕ
+addendMask h t i = addend h t i 2

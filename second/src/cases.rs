@@ -1,0 +1,5 @@
+//! Random cases.
+
+pub fn main(_args: &[String]) -> i32 {
+    0
+}

@@ -1,0 +1,147 @@
+//! Records: well-formed ones that follow each other as rows do, and malformed ones.
+
+use super::draft::Draft;
+use super::rng::Rng;
+use super::valid::printable;
+use crate::description::{Field, FINAL, NUMBER, TEXT};
+
+/// A record with every field set afresh; the bytes of no field are anything.
+pub fn fresh(rng: &mut Rng, draft: &Draft) -> Vec<u8> {
+    let mut row: Vec<u8> = (0..draft.record).map(|_| rng.byte()).collect();
+    for field in fields_of(draft, TEXT) {
+        set_text(rng, field, &mut row);
+    }
+    for field in fields_of(draft, NUMBER) {
+        set_number(rng, field, &mut row);
+    }
+    row
+}
+
+/// A record to come after `last`: mostly the same controls or one of them changed.
+pub fn after(rng: &mut Rng, draft: &Draft, last: &[u8]) -> Vec<u8> {
+    let mut row = last.to_vec();
+    let controls = draft.control_fields();
+    match rng.below(20) {
+        0 => return fresh(rng, draft),
+        1..=9 => drop(rng.maybe(&controls).map(|f| set(rng, draft.fields[f as usize], &mut row))),
+        10 => controls.iter().for_each(|&f| turn_zero(draft.fields[f as usize], &mut row)),
+        _ => {}
+    }
+    for f in 0..draft.fields.len() as u16 {
+        if !controls.contains(&f) && rng.chance(60) {
+            set(rng, draft.fields[f as usize], &mut row);
+        }
+    }
+    repair(rng, draft, &mut row);
+    row
+}
+
+fn fields_of(draft: &Draft, kind: u16) -> impl Iterator<Item = Field> + '_ {
+    draft.fields.iter().copied().filter(move |field| field.kind == kind)
+}
+
+fn bytes_of(field: Field, row: &[u8]) -> &[u8] {
+    &row[field.offset as usize..][..field.width as usize]
+}
+
+fn bytes_mut(field: Field, row: &mut [u8]) -> &mut [u8] {
+    &mut row[field.offset as usize..][..field.width as usize]
+}
+
+fn set(rng: &mut Rng, field: Field, row: &mut [u8]) {
+    if field.kind == NUMBER {
+        set_number(rng, field, row);
+    } else {
+        set_text(rng, field, row);
+    }
+}
+
+/// One of two letters with blanks behind, so that values return; sometimes any text.
+fn set_text(rng: &mut Rng, field: Field, row: &mut [u8]) {
+    let bytes = bytes_mut(field, row);
+    if rng.chance(20) {
+        bytes.iter_mut().for_each(|byte| *byte = printable(rng));
+    } else {
+        bytes.fill(b' ');
+        bytes[0] = rng.pick(b"ABZ");
+    }
+}
+
+fn set_number(rng: &mut Rng, field: Field, row: &mut [u8]) {
+    let bytes = bytes_mut(field, row);
+    let last = bytes.len() - 1;
+    bytes.fill(b'0');
+    bytes[0] = rng.pick(b"++-");
+    match rng.below(10) {
+        0..=1 => {}
+        2..=6 => bytes[last] = b'0' + rng.below(10) as u8,
+        7 => bytes[1..].fill(b'9'),
+        _ => bytes[1..].iter_mut().for_each(|byte| *byte = b'0' + rng.below(10) as u8),
+    }
+}
+
+/// "+000" becomes "-000" and the other way round; other values stay.
+fn turn_zero(field: Field, row: &mut [u8]) {
+    let bytes = bytes_mut(field, row);
+    if field.kind == NUMBER && bytes[1..].iter().all(|&byte| byte == b'0') {
+        bytes[0] = if bytes[0] == b'+' { b'-' } else { b'+' };
+    }
+}
+
+/// Sets again the number fields that a text set over them has spoilt.
+fn repair(rng: &mut Rng, draft: &Draft, row: &mut [u8]) {
+    for field in fields_of(draft, NUMBER) {
+        if !well_formed(field, row) {
+            set_number(rng, field, row);
+        }
+    }
+}
+
+fn well_formed(field: Field, row: &[u8]) -> bool {
+    let bytes = bytes_of(field, row);
+    if field.kind == TEXT {
+        return bytes.iter().all(|byte| (32..=126).contains(byte));
+    }
+    matches!(bytes[0], b'+' | b'-') && bytes[1..].iter().all(u8::is_ascii_digit)
+}
+
+/// The first field whose bytes are malformed, in a record of the right length.
+pub fn first_malformed(draft: &Draft, row: &[u8]) -> Option<u32> {
+    draft.fields.iter().position(|&field| !well_formed(field, row)).map(|field| field as u32)
+}
+
+/// Spoils one field, or a few; a record without fields stays as it is.
+pub fn malform(rng: &mut Rng, draft: &Draft, row: &mut [u8]) {
+    let times = if rng.chance(75) { 1 } else { rng.between(2, 4) };
+    for _ in 0..times {
+        let Some(field) = rng.maybe(&draft.fields) else { return };
+        let bytes = bytes_mut(field, row);
+        let any = rng.below(bytes.len());
+        let at = rng.pick(&[0, bytes.len() - 1, any]);
+        bytes[at] = match (field.kind, at) {
+            (TEXT, _) => rng.pick(&[31, 127, 0, 10, 128, 255]),
+            (_, 0) => rng.pick(b" 05,.*/\x00\xff"),
+            _ => rng.pick(b"/: +-.A\x00\xff"),
+        };
+    }
+}
+
+/// The level of the first control from the senior end whose value differs.
+pub fn break_level(draft: &Draft, kept: &[u8], row: &[u8]) -> Option<usize> {
+    draft.controls.iter().position(|&control| control != FINAL && {
+        let field = draft.fields[control as usize];
+        match field.kind {
+            NUMBER => value(bytes_of(field, kept)) != value(bytes_of(field, row)),
+            _ => bytes_of(field, kept) != bytes_of(field, row),
+        }
+    })
+}
+
+fn value(bytes: &[u8]) -> i64 {
+    let size = bytes[1..].iter().fold(0, |size, digit| size * 10 + i64::from(digit - b'0'));
+    if bytes[0] == b'-' {
+        -size
+    } else {
+        size
+    }
+}

@@ -1,0 +1,492 @@
+//! The description file: its tables, and the rules D1 to D8.
+
+use crate::place;
+
+pub const TRAILER_BYTES: usize = 48;
+
+// Field kinds.
+pub const TEXT: u16 = 0;
+pub const NUMBER: u16 = 1;
+
+/// The control that never differs.
+pub const FINAL: u16 = 65535;
+
+// Group types.
+pub const RH: u16 = 0;
+pub const PH: u16 = 1;
+pub const CH: u16 = 2;
+pub const DE: u16 = 3;
+pub const CF: u16 = 4;
+pub const PF: u16 = 5;
+pub const RF: u16 = 6;
+
+// Next-group kinds.
+pub const NEXT_NONE: u16 = 0;
+pub const NEXT_ABSOLUTE: u16 = 1;
+pub const NEXT_RELATIVE: u16 = 2;
+pub const NEXT_PAGE: u16 = 3;
+
+// Line kinds.
+pub const LINE_ABSOLUTE: u16 = 0;
+pub const LINE_NEXT_PAGE: u16 = 1;
+pub const LINE_RELATIVE: u16 = 2;
+
+// Item source kinds.
+pub const LITERAL: u16 = 0;
+pub const FIELD: u16 = 1;
+pub const PAGE_COUNTER: u16 = 2;
+pub const LINE_COUNTER: u16 = 3;
+pub const SUM: u16 = 4;
+
+// Addend kinds.
+pub const ADD_FIELD: u16 = 0;
+pub const ADD_COUNTER: u16 = 1;
+
+#[derive(Clone, Copy, Debug, Default, PartialEq, Eq)]
+pub struct Field {
+    pub kind: u16,
+    pub offset: u16,
+    pub width: u16,
+}
+
+#[derive(Clone, Copy, Debug, Default, PartialEq, Eq)]
+pub struct Group {
+    /// The group's type, `RH` to `RF`.
+    pub kind: u16,
+    pub level: u16,
+    pub first_line: u16,
+    pub line_count: u16,
+    pub next_kind: u16,
+    pub next_integer: u16,
+}
+
+#[derive(Clone, Copy, Debug, Default, PartialEq, Eq)]
+pub struct Line {
+    pub kind: u16,
+    pub integer: u16,
+    pub first_item: u16,
+    pub item_count: u16,
+}
+
+#[derive(Clone, Copy, Debug, Default, PartialEq, Eq)]
+pub struct Item {
+    pub column: u16,
+    pub width: u16,
+    pub source: u16,
+    pub index: u16,
+    pub decimals: u16,
+    pub indicate: u16,
+}
+
+#[derive(Clone, Copy, Debug, Default, PartialEq, Eq)]
+pub struct Counter {
+    pub group: u16,
+    pub reset: u16,
+    pub first_addend: u16,
+    pub addend_count: u16,
+}
+
+#[derive(Clone, Copy, Debug, Default, PartialEq, Eq)]
+pub struct Addend {
+    pub kind: u16,
+    pub index: u16,
+    pub mask: u16,
+}
+
+/// The decoded tables of a description.
+#[derive(Clone, Debug, Default, PartialEq, Eq)]
+pub struct Description {
+    pub fields: Vec<Field>,
+    pub controls: Vec<u16>,
+    pub groups: Vec<Group>,
+    pub lines: Vec<Line>,
+    pub items: Vec<Item>,
+    pub counters: Vec<Counter>,
+    pub addends: Vec<Addend>,
+    pub literals: Vec<u8>,
+    pub p: u16,
+    pub h: u16,
+    pub fd: u16,
+    pub ld: u16,
+    pub ft: u16,
+    pub w: u16,
+    pub r: u16,
+}
+
+/// Bytes of an entry and most entries of each section, in file order.
+pub const SECTIONS: [(usize, usize); 8] =
+    [(6, 32), (2, 8), (12, 32), (8, 128), (12, 512), (8, 32), (6, 128), (1, 4096)];
+
+/// CHECK: the tables, or the lowest broken rule, 1 to 8.
+pub fn check(bytes: &[u8]) -> Result<Description, u8> {
+    let description = d1(bytes).ok_or(1)?;
+    let rules: [fn(&Description) -> bool; 7] = [d2, d3, d4, d5, d6, d7, d8];
+    for (rule, number) in rules.iter().zip(2..) {
+        if !rule(&description) {
+            return Err(number);
+        }
+    }
+    Ok(description)
+}
+
+// What the tables say of one another. A function here needs the rule it names to hold.
+
+impl Description {
+    /// The group's lines (D5).
+    pub fn lines_of(&self, group: &Group) -> &[Line] {
+        part(&self.lines, group.first_line, group.line_count)
+    }
+
+    /// The line's items (D6).
+    pub fn items_of(&self, line: &Line) -> &[Item] {
+        part(&self.items, line.first_item, line.item_count)
+    }
+
+    /// The counter's addends (D8).
+    pub fn addends_of(&self, counter: &Counter) -> &[Addend] {
+        part(&self.addends, counter.first_addend, counter.addend_count)
+    }
+
+    /// "With span the sum of later steps" (D5).
+    pub fn span(&self, group: &Group) -> u32 {
+        self.lines_of(group).iter().skip(1).map(|line| u32::from(line.integer)).sum()
+    }
+
+    /// "Details are numbered in group order": the group index of detail `d`.
+    pub fn detail(&self, d: u32) -> Option<usize> {
+        self.indexes_of(DE).nth(d as usize)
+    }
+
+    pub fn detail_count(&self) -> usize {
+        self.indexes_of(DE).count()
+    }
+
+    /// The index of the one group of this type and level.
+    pub fn group_at(&self, kind: u16, level: u16) -> Option<usize> {
+        self.groups.iter().position(|group| group.kind == kind && group.level == level)
+    }
+
+    /// The index of the heading or footing of this type that has lines. "A heading or footing without lines
+    /// counts here as absent."
+    pub fn lined(&self, kind: u16) -> Option<usize> {
+        self.indexes_of(kind).find(|&g| self.groups[g].line_count > 0)
+    }
+
+    fn indexes_of(&self, kind: u16) -> impl Iterator<Item = usize> + '_ {
+        (0..self.groups.len()).filter(move |&g| self.groups[g].kind == kind)
+    }
+}
+
+fn part<T>(table: &[T], first: u16, count: u16) -> &[T] {
+    let first = usize::from(first);
+    &table[first..first + usize::from(count)]
+}
+
+// D1
+
+/// "At least 48 bytes; version 1; first start 0, each section beginning where the one before ends, literals
+/// ending at the trailer", and no section with too many entries.
+fn d1(bytes: &[u8]) -> Option<Description> {
+    let trailer_start = bytes.len().checked_sub(TRAILER_BYTES)?;
+    let trailer = numbers(&bytes[trailer_start..]);
+    let [p, h, fd, ld, ft, w, r, version] = trailer[16..] else {
+        return None;
+    };
+    if version != 1 {
+        return None;
+    }
+    let mut sections: Vec<&[u8]> = Vec::new();
+    let mut place = 0;
+    for (pair, (size, most)) in trailer[..16].chunks_exact(2).zip(SECTIONS) {
+        let (start, count) = (usize::from(pair[0]), usize::from(pair[1]));
+        if start != place || count > most {
+            return None;
+        }
+        place += count * size;
+        sections.push(bytes[..trailer_start].get(start..place)?);
+    }
+    if place != trailer_start {
+        return None;
+    }
+    Some(Description {
+        fields: entries(sections[0], |[kind, offset, width]| Field { kind, offset, width }),
+        controls: numbers(sections[1]),
+        groups: entries(sections[2], |[kind, level, first_line, line_count, next_kind, next_integer]| {
+            Group { kind, level, first_line, line_count, next_kind, next_integer }
+        }),
+        lines: entries(sections[3], |[kind, integer, first_item, item_count]| Line {
+            kind,
+            integer,
+            first_item,
+            item_count,
+        }),
+        items: entries(sections[4], |[column, width, source, index, decimals, indicate]| Item {
+            column,
+            width,
+            source,
+            index,
+            decimals,
+            indicate,
+        }),
+        counters: entries(sections[5], |[group, reset, first_addend, addend_count]| Counter {
+            group,
+            reset,
+            first_addend,
+            addend_count,
+        }),
+        addends: entries(sections[6], |[kind, index, mask]| Addend { kind, index, mask }),
+        literals: sections[7].to_vec(),
+        p,
+        h,
+        fd,
+        ld,
+        ft,
+        w,
+        r,
+    })
+}
+
+/// "Numbers are 2 bytes, low byte first."
+fn numbers(bytes: &[u8]) -> Vec<u16> {
+    bytes.chunks_exact(2).map(|pair| u16::from_le_bytes([pair[0], pair[1]])).collect()
+}
+
+/// A section of entries of `N` numbers each.
+fn entries<const N: usize, T>(section: &[u8], entry: impl Fn([u16; N]) -> T) -> Vec<T> {
+    let number = |bytes: &[u8], i: usize| u16::from_le_bytes([bytes[2 * i], bytes[2 * i + 1]]);
+    section.chunks_exact(2 * N).map(|bytes| entry(std::array::from_fn(|i| number(bytes, i)))).collect()
+}
+
+// D2
+
+/// "1 ≤ H ≤ FD ≤ LD ≤ FT ≤ P ≤ 999; W 1 to 132; R 1 to 256."
+fn d2(d: &Description) -> bool {
+    [1, d.h, d.fd, d.ld, d.ft, d.p, 999].is_sorted() && (1..=132).contains(&d.w) && (1..=256).contains(&d.r)
+}
+
+// D3
+
+/// "Fields inside the record; text width 1 to 64, number width 2 to 18."
+fn d3(d: &Description) -> bool {
+    d.fields.iter().all(|field| {
+        let width_is_right = match field.kind {
+            TEXT => (1..=64).contains(&field.width),
+            NUMBER => (2..=18).contains(&field.width),
+            _ => false,
+        };
+        width_is_right && u32::from(field.offset) + u32::from(field.width) <= u32::from(d.r)
+    })
+}
+
+// D4
+
+/// "FINAL only first; other indexes exist, none twice."
+fn d4(d: &Description) -> bool {
+    d.controls.iter().enumerate().all(|(level, &control)| {
+        let exists = if control == FINAL { level == 0 } else { usize::from(control) < d.fields.len() };
+        exists && !d.controls[..level].contains(&control)
+    })
+}
+
+// D5
+
+fn d5(d: &Description) -> bool {
+    d.groups.iter().all(|group| level_is_right(d, group) && next_group_is_right(d, group))
+        && headings_and_footings_stand_once(d)
+        && (1..=8).contains(&d.detail_count())
+        && shared_out(d.groups.iter().map(|group| (group.first_line, group.line_count)), d.lines.len())
+}
+
+/// "Levels existing; other types have level 0."
+fn level_is_right(d: &Description, group: &Group) -> bool {
+    match group.kind {
+        CH | CF => usize::from(group.level) < d.controls.len(),
+        RH | PH | DE | PF | RF => group.level == 0,
+        _ => false,
+    }
+}
+
+/// "Next group only on CH, DE, CF: absolute FD to FT, relative 1 to 999, else integer 0."
+fn next_group_is_right(d: &Description, group: &Group) -> bool {
+    let may_have_one = matches!(group.kind, CH | DE | CF);
+    match group.next_kind {
+        NEXT_NONE => group.next_integer == 0,
+        NEXT_ABSOLUTE => may_have_one && (d.fd..=d.ft).contains(&group.next_integer),
+        NEXT_RELATIVE => may_have_one && (1..=999).contains(&group.next_integer),
+        NEXT_PAGE => may_have_one && group.next_integer == 0,
+        _ => false,
+    }
+}
+
+/// "At most one each of RH, PH, PF, RF; at most one CH and one CF per level." (The first four have level 0.)
+fn headings_and_footings_stand_once(d: &Description) -> bool {
+    d.groups.iter().enumerate().all(|(g, group)| {
+        group.kind == DE || !d.groups[..g].iter().any(|o| o.kind == group.kind && o.level == group.level)
+    })
+}
+
+/// "Shared out in order, each used once": every owner's first is where the one before ends, and nothing is left.
+fn shared_out(owners: impl Iterator<Item = (u16, u16)>, total: usize) -> bool {
+    let mut place = 0;
+    for (first, count) in owners {
+        if usize::from(first) != place {
+            return false;
+        }
+        place += usize::from(count);
+    }
+    place == total
+}
+
+// D6
+
+fn d6(d: &Description) -> bool {
+    d.groups.iter().all(|group| lines_are_right(d, group))
+        && shared_out(d.lines.iter().map(|line| (line.first_item, line.item_count)), d.items.len())
+        && d.groups.iter().all(|group| fits(d, group))
+}
+
+/// "At most 16 lines a group; first line integer 1 to 999, later lines relative 1 to 99."
+fn lines_are_right(d: &Description, group: &Group) -> bool {
+    let Some((first, later)) = d.lines_of(group).split_first() else {
+        return true;
+    };
+    group.line_count <= 16
+        && first_line_kind_is_right(group.kind, first.kind)
+        && (1..=999).contains(&first.integer)
+        && later.iter().all(|line| line.kind == LINE_RELATIVE && (1..=99).contains(&line.integer))
+}
+
+/// "First lines: PF absolute only; RH, PH absolute or relative; others any."
+fn first_line_kind_is_right(group_kind: u16, line_kind: u16) -> bool {
+    match group_kind {
+        PF => line_kind == LINE_ABSOLUTE,
+        RH | PH => matches!(line_kind, LINE_ABSOLUTE | LINE_RELATIVE),
+        _ => matches!(line_kind, LINE_ABSOLUTE | LINE_NEXT_PAGE | LINE_RELATIVE),
+    }
+}
+
+/// "With span the sum of later steps, the group must fit."
+fn fits(d: &Description, group: &Group) -> bool {
+    let Some(first) = d.lines_of(group).first() else {
+        return true;
+    };
+    let [p, h, fd, ld, ft] = [d.p, d.h, d.fd, d.ld, d.ft].map(u32::from);
+    // "CH, DE in FD..LD and CF in FD..FT, taking first line n, or FD where relative"
+    let body_start = if first.kind == LINE_RELATIVE { fd } else { u32::from(first.integer) };
+    let (start, from, to) = match group.kind {
+        CH | DE => (body_start, fd, ld),
+        CF => (body_start, fd, ft),
+        // "RH, PH in H..FD−1"
+        RH => (place::report_heading_line(d, group), h, fd - 1),
+        // "PH starts below RH's last line"
+        PH => (place::first_page_heading_line(d, group), h.max(place::report_heading_end(d) + 1), fd - 1),
+        // "PF in FT+1..P"
+        PF => (u32::from(first.integer), ft + 1, p),
+        // "RF in FT+1..P, or H..P where next page"; "not on a page of its own starts below PF's last line"
+        _ if first.kind == LINE_NEXT_PAGE => (u32::from(first.integer), h, p),
+        _ => (place::report_footing_line(d, group), place::page_footing_end(d) + 1, p),
+    };
+    from <= start && start + d.span(group) <= to
+}
+
+// D7
+
+fn d7(d: &Description) -> bool {
+    let items_are_right = |g: usize| {
+        let mut lines = d.lines_of(&d.groups[g]).iter();
+        lines.all(|line| {
+            columns_rise(d, line) && d.items_of(line).iter().all(|item| item_is_right(d, g, item))
+        })
+    };
+    // "Literal bytes 32 to 126"
+    d.literals.iter().all(|byte| (32..=126).contains(byte)) && (0..d.groups.len()).all(items_are_right)
+}
+
+/// "Items rise in column without overlap, inside 1..W, width at least 1."
+fn columns_rise(d: &Description, line: &Line) -> bool {
+    let mut end = 0;
+    for item in d.items_of(line) {
+        if item.width < 1 || u32::from(item.column) <= end {
+            return false;
+        }
+        end = u32::from(item.column) + u32::from(item.width) - 1;
+    }
+    end <= u32::from(d.w)
+}
+
+fn item_is_right(d: &Description, g: usize, item: &Item) -> bool {
+    let index = usize::from(item.index);
+    let in_detail = d.groups[g].kind == DE;
+    let source_is_right = match item.source {
+        // "Index exists, for a literal with the item's whole width"
+        LITERAL => index + usize::from(item.width) <= d.literals.len(),
+        // "Outside DE a field item names a control's field."
+        FIELD => index < d.fields.len() && (in_detail || d.controls.contains(&item.index)),
+        // "0 for kinds 2 and 3"
+        PAGE_COUNTER | LINE_COUNTER => index == 0,
+        // "A sum item stands in its counter's own group."
+        SUM => d.counters.get(index).is_some_and(|counter| usize::from(counter.group) == g),
+        _ => false,
+    };
+    // "Indicate only in DE."
+    let indicate_is_right = item.indicate == 0 || (item.indicate == 1 && in_detail);
+    source_is_right && indicate_is_right && decimals_are_right(d, item)
+}
+
+/// "Decimals 0 to 4 and below the width, 0 unless a number field or sum."
+fn decimals_are_right(d: &Description, item: &Item) -> bool {
+    let is_number = match item.source {
+        FIELD => d.fields[usize::from(item.index)].kind == NUMBER,
+        SUM => true,
+        _ => false,
+    };
+    item.decimals == 0 || (is_number && item.decimals <= 4 && item.decimals < item.width)
+}
+
+// D8
+
+fn d8(d: &Description) -> bool {
+    d.counters.iter().all(|counter| counter_is_right(d, counter))
+        && shared_out(d.counters.iter().map(|c| (c.first_addend, c.addend_count)), d.addends.len())
+        && (0..d.counters.len()).all(|c| addends_are_right(d, c))
+}
+
+/// "Group is a CF; reset level no greater than its group's; 1 to 8 addends."
+fn counter_is_right(d: &Description, counter: &Counter) -> bool {
+    d.groups
+        .get(usize::from(counter.group))
+        .is_some_and(|group| group.kind == CF && counter.reset <= group.level)
+        && (1..=8).contains(&counter.addend_count)
+}
+
+/// "None with the same kind and index twice."
+fn addends_are_right(d: &Description, c: usize) -> bool {
+    let addends = d.addends_of(&d.counters[c]);
+    addends.iter().enumerate().all(|(a, addend)| {
+        let named_before = addends[..a].iter().any(|o| o.kind == addend.kind && o.index == addend.index);
+        !named_before
+            && match addend.kind {
+                ADD_FIELD => field_addend_is_right(d, addend),
+                ADD_COUNTER => counter_addend_is_right(d, c, addend),
+                _ => false,
+            }
+    })
+}
+
+/// "Field addends: number fields, mask nonzero and naming details only."
+fn field_addend_is_right(d: &Description, addend: &Addend) -> bool {
+    d.fields.get(usize::from(addend.index)).is_some_and(|field| field.kind == NUMBER)
+        && addend.mask != 0
+        && addend.mask >> d.detail_count() == 0
+}
+
+/// "Counter addends: mask 0, a counter of a more junior CF, or an earlier one of the same CF."
+fn counter_addend_is_right(d: &Description, c: usize, addend: &Addend) -> bool {
+    let named = usize::from(addend.index);
+    let Some(counter) = d.counters.get(named) else {
+        return false;
+    };
+    let level = |group: u16| d.groups[usize::from(group)].level;
+    let own = d.counters[c].group;
+    addend.mask == 0 && (level(counter.group) > level(own) || (counter.group == own && named < c))
+}
