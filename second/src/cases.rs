@@ -1,5 +1,331 @@
-//! Random cases.
+//! Random cases: descriptions for CHECK and sequences of calls, the same for the same seed.
+//!
+//! A comparison draws `case`s, asks each `Sequence` for its `Step`s and hands every step to both
+//! programs, with an output filled by `Step::output`; the answer of one of them leads to the next
+//! step. `main` runs the second program alone and looks at what any implementation must keep.
 
-pub fn main(_args: &[String]) -> i32 {
-    0
+mod broken;
+mod draft;
+mod keep;
+mod rng;
+mod rows;
+mod sample;
+mod sequence;
+mod states;
+mod tally;
+mod valid;
+mod walk;
+
+pub use draft::Draft;
+pub use keep::call as keeps;
+pub use rng::Rng;
+pub use sample::{damaged, sample, Sample};
+pub use sequence::{pattern, Call, Expect, Sequence, Step};
+pub use tally::Tally;
+
+use crate::description::check;
+use crate::report::{self, Answer};
+
+/// A random description; about half of them keep D1 to D8.
+pub fn description(rng: &mut Rng) -> Vec<u8> {
+    sample(rng).bytes
+}
+
+/// A random description that keeps D1 to D8.
+pub fn accepted_description(rng: &mut Rng) -> Vec<u8> {
+    if rng.chance(97) {
+        valid::draft(rng).bytes()
+    } else {
+        valid::rich(rng).bytes()
+    }
+}
+
+/// `calls` steps for a description, accepted or not.
+pub fn sequence(rng: &mut Rng, desc: &[u8], calls: usize) -> Sequence {
+    Sequence::new(rng, check(desc).map(|_| Draft::read(desc)), calls)
+}
+
+/// A description with calls to make.
+#[derive(Clone, Debug)]
+pub struct Case {
+    /// `case` makes the same case of it again.
+    pub seed: u64,
+    pub desc: Vec<u8>,
+    pub steps: Sequence,
+}
+
+/// The case of a seed: 4 to 60 calls; most descriptions are accepted.
+pub fn case(seed: u64) -> Case {
+    let mut rng = Rng::new(seed);
+    let (desc, calls) = if rng.chance(90) {
+        (accepted_description(&mut rng), rng.between(5, 60))
+    } else {
+        (description(&mut rng), 4)
+    };
+    let steps = sequence(&mut rng, &desc, calls);
+    Case { seed, desc, steps }
+}
+
+/// Makes one call of the second program; gives its answer and what it left of the output.
+pub fn play(desc: &[u8], step: &Step) -> (Answer, Vec<u8>) {
+    let mut output = step.output();
+    let answer = match &step.call {
+        Call::Initiate => report::initiate(desc, &step.state),
+        Call::Generate { d, record } => report::generate(desc, &step.state, *d, record, &mut output),
+        Call::Terminate => report::terminate(desc, &step.state, &mut output),
+    };
+    (answer, output)
+}
+
+// ---- the command
+
+const HELP: &str = "second cases: random cases against the second program
+
+  second cases [--seed N] [--descriptions N] [--calls N] [--all]
+  second cases --case N
+
+  --seed N          where chance begins (1)
+  --descriptions N  how many descriptions CHECK gets (50000)
+  --calls N         how many calls are made after that, at least (100000)
+  --all             list every feature with its count
+  --case N          show one case: its description, its calls and their answers
+
+Prints how often each rule and refusal was reached. Ends with 1 where one was not reached, or
+where an answer was not what any implementation must give; else with 0.
+";
+
+#[derive(Clone, Copy, Debug)]
+struct Amounts {
+    seed: u64,
+    descriptions: usize,
+    calls: usize,
+    all: bool,
+    case: Option<u64>,
+}
+
+/// The command `second cases`; gives the exit code.
+pub fn main(args: &[String]) -> i32 {
+    if args.iter().any(|arg| arg == "--help" || arg == "-h") {
+        print!("{HELP}");
+        return 0;
+    }
+    match read_args(args) {
+        Ok(Amounts { case: Some(seed), .. }) => show_case(seed),
+        Ok(amounts) => run_and_report(amounts),
+        Err(wrong) => {
+            eprintln!("second cases: {wrong}; --help tells more");
+            2
+        }
+    }
+}
+
+fn read_args(args: &[String]) -> Result<Amounts, String> {
+    let mut amounts = Amounts { seed: 1, descriptions: 50_000, calls: 100_000, all: false, case: None };
+    let mut args = args.iter();
+    while let Some(name) = args.next() {
+        if name == "--all" {
+            amounts.all = true;
+            continue;
+        }
+        let mut value = || args.next().and_then(|text| text.parse::<u64>().ok());
+        let wanted = || format!("{name} wants a number");
+        match name.as_str() {
+            "--seed" => amounts.seed = value().ok_or_else(wanted)?,
+            "--descriptions" => amounts.descriptions = value().ok_or_else(wanted)? as usize,
+            "--calls" => amounts.calls = value().ok_or_else(wanted)? as usize,
+            "--case" => amounts.case = Some(value().ok_or_else(wanted)?),
+            _ => return Err(format!("{name} is unknown")),
+        }
+    }
+    Ok(amounts)
+}
+
+fn run_and_report(amounts: Amounts) -> i32 {
+    let (tally, wrong) = run(amounts, &|line| eprintln!("{line}"));
+    print!("{}", tally.report(amounts.all));
+    let missing = tally.missing();
+    for name in &missing {
+        println!("NOT REACHED: {name}");
+    }
+    for line in &wrong {
+        println!("WRONG: {line}");
+    }
+    if missing.is_empty() && wrong.is_empty() {
+        println!("all reached, nothing wrong (seed {})", amounts.seed);
+        return 0;
+    }
+    1
+}
+
+/// The most wrong answers that are told.
+const TOLD: usize = 5;
+
+/// Runs everything; gives the counts and what went wrong.
+fn run(amounts: Amounts, progress: &dyn Fn(&str)) -> (Tally, Vec<String>) {
+    let mut rng = Rng::new(amounts.seed);
+    let mut tally = Tally::new();
+    let mut wrong = Vec::new();
+    check_descriptions(&mut rng, amounts.descriptions, &mut tally, &mut wrong, progress);
+    make_calls(&mut rng, amounts.calls, &mut tally, &mut wrong, progress);
+    (tally, wrong)
+}
+
+fn check_descriptions(
+    rng: &mut Rng,
+    count: usize,
+    tally: &mut Tally,
+    wrong: &mut Vec<String>,
+    progress: &dyn Fn(&str),
+) {
+    for done in 1..=count {
+        let sample = sample(rng);
+        let rule = check(&sample.bytes).map_or_else(|rule| rule, |_| 0);
+        if sample.rule.is_some_and(|known| known != rule) && wrong.len() < TOLD {
+            let known = sample.rule.unwrap_or(0);
+            let bytes = hex(&sample.bytes);
+            wrong.push(format!("CHECK answers {rule}, not {known} ({}): {bytes}", sample.name));
+        }
+        tally.check(sample.name, &sample.bytes, rule);
+        if done % 25_000 == 0 {
+            progress(&format!("{done} descriptions of {count}"));
+        }
+    }
+}
+
+fn make_calls(
+    rng: &mut Rng,
+    count: usize,
+    tally: &mut Tally,
+    wrong: &mut Vec<String>,
+    progress: &dyn Fn(&str),
+) {
+    let mut done = 0;
+    while done < count {
+        let Case { seed, desc, mut steps } = case(rng.draw());
+        let mut last = None;
+        while let Some(step) = steps.step(last.as_ref()) {
+            let (answer, output) = play(&desc, &step);
+            if let Err(what) = keeps(steps.draft(), &step, &answer, &output) {
+                if wrong.len() < TOLD {
+                    wrong.push(format!("{what}: {} (--case {seed})", outline(&step, &answer)));
+                }
+            }
+            tally.call(steps.draft(), &step, &answer);
+            last = Some(answer);
+            done += 1;
+            if done % 25_000 == 0 {
+                progress(&format!("{done} calls of {count}"));
+            }
+        }
+    }
+}
+
+/// Prints a case whole.
+fn show_case(seed: u64) -> i32 {
+    let Case { desc, mut steps, .. } = case(seed);
+    println!("description {}", hex(&desc));
+    match steps.draft() {
+        Ok(draft) => println!("{draft:#?}"),
+        Err(rule) => println!("breaks D{rule}"),
+    }
+    let mut last = None;
+    let mut code = 0;
+    while let Some(step) = steps.step(last.as_ref()) {
+        let (answer, output) = play(&desc, &step);
+        println!("\n{}", outline(&step, &answer));
+        println!("state before {}", hex(&step.state.to_bytes()));
+        if let Call::Generate { record, .. } = &step.call {
+            println!("record       {}", record.escape_ascii());
+        }
+        println!("state after  {}", hex(&answer.state.to_bytes()));
+        print!("{}", String::from_utf8_lossy(&output[..answer.count.min(output.len())]));
+        if let Err(what) = keeps(steps.draft(), &step, &answer, &output) {
+            println!("WRONG: {what}");
+            code = 1;
+        }
+        last = Some(answer);
+    }
+    code
+}
+
+/// A step and its answer in one line.
+fn outline(step: &Step, answer: &Answer) -> String {
+    let call = match &step.call {
+        Call::Initiate => "INITIATE".to_string(),
+        Call::Generate { d, .. } => format!("GENERATE detail {d}"),
+        Call::Terminate => "TERMINATE".to_string(),
+    };
+    let (before, after) = (&step.state, &answer.state);
+    format!(
+        "{call}, {}, room {}: phase {} page {} line {} seen {} saved {} -> {} {}, {} bytes, phase {} page {} line {} seen {} saved {}",
+        step.name, step.room, before.phase, before.page, before.line, before.seen, before.saved,
+        answer.number, answer.extra, answer.count,
+        after.phase, after.page, after.line, after.seen, after.saved,
+    )
+}
+
+fn hex(bytes: &[u8]) -> String {
+    bytes.iter().map(|byte| format!("{byte:02x}")).collect()
+}
+
+#[cfg(test)]
+mod tests {
+    use super::*;
+
+    fn quiet(_: &str) {}
+
+    #[test]
+    fn a_draft_is_read_back_as_it_was_written() {
+        let mut rng = Rng::new(2);
+        for _ in 0..500 {
+            let draft = valid::draft(&mut rng);
+            assert_eq!(Draft::read(&draft.bytes()), draft);
+        }
+    }
+
+    #[test]
+    fn the_same_seed_gives_the_same_descriptions() {
+        let draw = |seed| {
+            let mut rng = Rng::new(seed);
+            (0..50).map(|_| description(&mut rng)).collect::<Vec<_>>()
+        };
+        assert_eq!(draw(3), draw(3));
+        assert_ne!(draw(3), draw(4));
+    }
+
+    #[test]
+    fn about_half_of_the_descriptions_are_accepted() {
+        let mut rng = Rng::new(5);
+        let accepted = (0..2000).filter(|_| check(&description(&mut rng)).is_ok()).count();
+        assert!((800..1200).contains(&accepted), "{accepted} of 2000");
+    }
+
+    #[test]
+    fn damaged_bytes_have_every_length() {
+        let mut rng = Rng::new(6);
+        let lengths: Vec<usize> = (0..2000).map(|_| damaged(&mut rng, &[7; 100]).len()).collect();
+        assert!([0, 47, 48, 99, 100, 101].iter().all(|length| lengths.contains(length)));
+    }
+
+    #[test]
+    fn a_wrong_answer_is_seen() {
+        let mut rng = Rng::new(7);
+        let desc = accepted_description(&mut rng);
+        let mut steps = sequence(&mut rng, &desc, 50);
+        let step = steps.step(None).expect("fifty steps");
+        let (mut answer, output) = play(&desc, &step);
+        assert_eq!(keeps(steps.draft(), &step, &answer, &output), Ok(()));
+        answer.state.page += 1;
+        assert!(keeps(steps.draft(), &step, &answer, &output).is_err());
+    }
+
+    #[test]
+    fn a_small_run_reaches_every_rule_and_refusal() {
+        let amounts = Amounts { seed: 1, descriptions: 4_000, calls: 10_000, all: false, case: None };
+        let (tally, wrong) = run(amounts, &quiet);
+        assert_eq!(wrong, Vec::<String>::new());
+        assert!(tally.rules.iter().all(|&times| times > 0), "{:?}", tally.rules);
+        let never = tally.missing().into_iter().filter(|name| name.contains(": refusal "));
+        assert_eq!(never.collect::<Vec<_>>(), Vec::<String>::new());
+    }
 }

@@ -1,3 +1,4 @@
 -- The laws that belong to no one function.
 pub mod Fill
 pub mod Heads
+pub mod Says

@@ -1,3 +1,4 @@
 -- The tables of a description.
 pub mod Head
 pub mod Table
+pub mod Entry

@@ -8,8 +8,8 @@ use super::draft::{
 use super::rng::Rng;
 use super::valid;
 use crate::description::{
-    Addend, Item, ADD_COUNTER, ADD_FIELD, CF, CH, DE, FIELD, FINAL, LINE_ABSOLUTE, LINE_NEXT_PAGE,
-    LINE_RELATIVE, LINE_COUNTER, LITERAL, NEXT_ABSOLUTE, NEXT_NONE, NEXT_PAGE, NEXT_RELATIVE, NUMBER,
+    Addend, Item, ADD_COUNTER, ADD_FIELD, CF, CH, DE, FIELD, FINAL, LINE_ABSOLUTE, LINE_COUNTER,
+    LINE_NEXT_PAGE, LINE_RELATIVE, LITERAL, NEXT_ABSOLUTE, NEXT_NONE, NEXT_PAGE, NEXT_RELATIVE, NUMBER,
     PAGE_COUNTER, PF, PH, RF, RH, SUM, TEXT,
 };
 
@@ -456,14 +456,8 @@ fn line_kind(rng: &mut Rng, draft: &Draft) -> Option<Change> {
 
 fn later_line(rng: &mut Rng, draft: &Draft) -> Option<Change> {
     let (g, l) = some_later_line(rng, draft)?;
-    let (column, value) = rng.pick(&[
-        (0, LINE_ABSOLUTE),
-        (0, LINE_NEXT_PAGE),
-        (0, 3),
-        (1, 0),
-        (1, 100),
-        (1, 65535),
-    ]);
+    let (column, value) =
+        rng.pick(&[(0, LINE_ABSOLUTE), (0, LINE_NEXT_PAGE), (0, 3), (1, 0), (1, 100), (1, 65535)]);
     change(Section::Lines, draft.first_line(g) + l, column, value)
 }
 
@@ -634,7 +628,8 @@ fn field_item(rng: &mut Rng, draft: &Draft) -> Option<Change> {
 /// A sum whose counter stands in another group.
 fn sum_item(rng: &mut Rng, draft: &Draft) -> Option<Change> {
     let place = some_item(rng, draft)?;
-    let elsewhere = |c: u16| draft.counters.get(c as usize).is_some_and(|it| it.group as usize != place.group);
+    let elsewhere =
+        |c: u16| draft.counters.get(c as usize).is_some_and(|it| it.group as usize != place.group);
     if place.item.source != SUM {
         return elsewhere(place.item.index).then(|| in_item(place, 2, SUM))?;
     }

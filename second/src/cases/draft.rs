@@ -113,6 +113,16 @@ impl Block {
         self.lines.iter().skip(1).map(|line| line.integer).sum()
     }
 
+    /// Where RH, PH, PF or RF begins when its relative form counts from `above`; it has lines.
+    pub fn start(&self, above: u16) -> u16 {
+        let first = &self.lines[0];
+        if first.kind == LINE_RELATIVE {
+            above + first.integer
+        } else {
+            first.integer
+        }
+    }
+
     /// Kind of the first line; `None` without lines.
     pub fn first_kind(&self) -> Option<u16> {
         self.lines.first().map(|line| line.kind)
@@ -181,13 +191,13 @@ impl Draft {
     /// RH's last line, or H − 1 without one.
     pub fn rh_end(&self) -> u16 {
         let above = self.page.h - 1;
-        self.printed(RH).map_or(above, |group| fixed_start(group, above) + group.span())
+        self.printed(RH).map_or(above, |group| group.start(above) + group.span())
     }
 
     /// PF's last line, or FT without one.
     pub fn pf_end(&self) -> u16 {
         let above = self.page.ft;
-        self.printed(PF).map_or(above, |group| fixed_start(group, above) + group.span())
+        self.printed(PF).map_or(above, |group| group.start(above) + group.span())
     }
 
     /// First and last line a group may print on; RF not on a page of its own.
@@ -244,16 +254,6 @@ pub struct ItemPlace {
     pub item: Item,
 }
 
-/// The first line of a group whose relative form counts from `above`.
-fn fixed_start(group: &Block, above: u16) -> u16 {
-    let first = &group.lines[0];
-    if first.kind == LINE_RELATIVE {
-        above + first.integer
-    } else {
-        first.integer
-    }
-}
-
 /// A description's bytes, with places known: any number can be changed on its own.
 #[derive(Clone, Debug)]
 pub struct Image {
@@ -286,6 +286,10 @@ impl Image {
         self.bytes[at..at + 2].copy_from_slice(&change.value.to_le_bytes());
     }
 
+    fn change_trailer(&mut self, column: usize, value: u16) {
+        self.change(Change { section: Section::Trailer, entry: 0, column, value });
+    }
+
     /// Byte place of the literals' first byte.
     pub fn literals(&self) -> usize {
         self.starts[Section::Literals as usize]
@@ -302,16 +306,12 @@ impl Image {
         let end = self.starts[place + 1];
         let entry: Vec<u8> = numbers.iter().flat_map(|number| number.to_le_bytes()).collect();
         self.bytes.splice(end..end, entry.iter().copied());
-        for later in place + 1..=Section::Trailer as usize {
-            self.starts[later] += entry.len();
-            if later < Section::Trailer as usize {
-                let start = self.starts[later] as u16;
-                self.change(Change { section: Section::Trailer, entry: 0, column: 2 * later, value: start });
-            }
+        self.starts[place + 1..].iter_mut().for_each(|start| *start += entry.len());
+        for later in place + 1..Section::Trailer as usize {
+            self.change_trailer(2 * later, self.starts[later] as u16);
         }
         let column = 2 * place + 1;
-        let value = self.number(Section::Trailer, 0, column) + 1;
-        self.change(Change { section: Section::Trailer, entry: 0, column, value });
+        self.change_trailer(column, self.number(Section::Trailer, 0, column) + 1);
     }
 
     /// Swaps two neighbouring entries.

@@ -23,7 +23,11 @@ pub fn after(rng: &mut Rng, draft: &Draft, last: &[u8]) -> Vec<u8> {
     let controls = draft.control_fields();
     match rng.below(20) {
         0 => return fresh(rng, draft),
-        1..=9 => drop(rng.maybe(&controls).map(|f| set(rng, draft.fields[f as usize], &mut row))),
+        1..=9 => {
+            if let Some(f) = rng.maybe(&controls) {
+                set(rng, draft.fields[f as usize], &mut row);
+            }
+        }
         10 => controls.iter().for_each(|&f| turn_zero(draft.fields[f as usize], &mut row)),
         _ => {}
     }
@@ -112,27 +116,46 @@ pub fn first_malformed(draft: &Draft, row: &[u8]) -> Option<u32> {
 
 /// Spoils one field, or a few; a record without fields stays as it is.
 pub fn malform(rng: &mut Rng, draft: &Draft, row: &mut [u8]) {
+    let count = draft.fields.len();
     let times = if rng.chance(75) { 1 } else { rng.between(2, 4) };
-    for _ in 0..times {
-        let Some(field) = rng.maybe(&draft.fields) else { return };
-        let bytes = bytes_mut(field, row);
-        let any = rng.below(bytes.len());
-        let at = rng.pick(&[0, bytes.len() - 1, any]);
-        bytes[at] = match (field.kind, at) {
-            (TEXT, _) => rng.pick(&[31, 127, 0, 10, 128, 255]),
-            (_, 0) => rng.pick(b" 05,.*/\x00\xff"),
-            _ => rng.pick(b"/: +-.A\x00\xff"),
-        };
+    for _ in 0..times.min(count) {
+        let target = if rng.chance(25) { count - 1 } else { rng.below(count) };
+        spoil(rng, draft, target, row);
     }
+}
+
+/// Spoils the target, if it can without a field before it that lies over the same bytes.
+fn spoil(rng: &mut Rng, draft: &Draft, target: usize, row: &mut [u8]) {
+    let before = row.to_vec();
+    for _ in 0..8 {
+        row.copy_from_slice(&before);
+        spoil_byte(rng, draft.fields[target], row);
+        if first_malformed(draft, row) == Some(target as u32) {
+            return;
+        }
+    }
+}
+
+fn spoil_byte(rng: &mut Rng, field: Field, row: &mut [u8]) {
+    let bytes = bytes_mut(field, row);
+    let any = rng.below(bytes.len());
+    let at = rng.pick(&[0, bytes.len() - 1, any]);
+    bytes[at] = match (field.kind, at) {
+        (TEXT, _) => rng.pick(&[31, 127, 0, 10, 128, 255]),
+        (_, 0) => rng.pick(b" 05,.*/\x00\xff"),
+        _ => rng.pick(b"/: +-.A\x00\xff"),
+    };
 }
 
 /// The level of the first control from the senior end whose value differs.
 pub fn break_level(draft: &Draft, kept: &[u8], row: &[u8]) -> Option<usize> {
-    draft.controls.iter().position(|&control| control != FINAL && {
-        let field = draft.fields[control as usize];
-        match field.kind {
-            NUMBER => value(bytes_of(field, kept)) != value(bytes_of(field, row)),
-            _ => bytes_of(field, kept) != bytes_of(field, row),
+    draft.controls.iter().position(|&control| {
+        control != FINAL && {
+            let field = draft.fields[control as usize];
+            match field.kind {
+                NUMBER => value(bytes_of(field, kept)) != value(bytes_of(field, row)),
+                _ => bytes_of(field, kept) != bytes_of(field, row),
+            }
         }
     })
 }

@@ -16,8 +16,14 @@ pub struct Sample {
 }
 
 /// Names of the samples that are no single fault.
-pub const NAMES: [&str; 6] =
-    ["in order", "in order, at a limit", "number changed blindly", "two faults", "bytes damaged", "random bytes"];
+pub const NAMES: [&str; 6] = [
+    "in order",
+    "in order, at a limit",
+    "number changed blindly",
+    "two faults",
+    "bytes damaged",
+    "random bytes",
+];
 
 pub fn sample(rng: &mut Rng) -> Sample {
     match rng.below(100) {

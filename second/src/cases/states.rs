@@ -33,11 +33,12 @@ pub fn running(rng: &mut Rng, draft: &Draft, kept: &[u8]) -> Option<State> {
     state.seen = u8::from(rng.chance(80));
     state.line = match state.seen {
         0 => rng.number(0, limits.fd - 1),
-        _ if rng.chance(30) => limits.ft,
+        _ if rng.chance(40) => limits.ft,
         _ => rng.number(limits.fd, limits.ft),
     };
     if state.seen == 1 && state.line == limits.ft && rng.chance(60) {
-        state.saved = rng.number(limits.fd, limits.ft);
+        let any = rng.number(limits.fd, limits.ft);
+        state.saved = rng.pick(&[limits.fd, limits.ft, any, any]);
     }
     let near_the_limit = rng.chance(50);
     for sum in &mut state.sums[..draft.counters.len()] {

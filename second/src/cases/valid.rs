@@ -162,7 +162,8 @@ fn next_field(rng: &mut Rng, draft: &Draft, free: u16, wanted: usize) -> Field {
 }
 
 fn text_anywhere(rng: &mut Rng, record: u16) -> Field {
-    let width = rng.number(1, record.min(if rng.chance(80) { 8 } else { 64 }));
+    let widest = if rng.chance(80) { 8 } else { 64 };
+    let width = rng.number(1, record.min(widest));
     Field { kind: TEXT, offset: rng.number(0, record - width), width }
 }
 
@@ -257,9 +258,11 @@ fn add_lines(rng: &mut Rng, draft: &mut Draft, rich: bool) {
     let mut order: Vec<usize> = (0..draft.groups.len()).collect();
     // PH counts from RH, RF from PF: those come first.
     order.sort_by_key(|&g| matches!(draft.groups[g].kind, PH | RF));
+    // Where most groups have no lines, a call prints a single one now and then.
+    let lineless = if rich { 0 } else { rng.pick(&[10, 15, 15, 60, 80]) };
     for g in order {
         let kind = draft.groups[g].kind;
-        if !rich && rng.chance(if kind == DE { 20 } else { 15 }) {
+        if rng.chance(lineless) {
             continue;
         }
         let lines = match kind {
@@ -325,7 +328,7 @@ fn body_lines(rng: &mut Rng, draft: &Draft, kind: u16, left: usize) -> Vec<Row> 
     let (top, low) = draft.window(kind);
     let start = match rng.below(4) {
         0 => top,
-        1 => rng.number(top, low),
+        1..=2 => rng.number(top, low),
         _ => rng.number(top, low.min(top + 6)),
     };
     match rng.below(10) {

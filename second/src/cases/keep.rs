@@ -1,0 +1,123 @@
+//! What any implementation must keep, whatever it prints.
+
+use super::draft::Draft;
+use super::sequence::{line_bytes, most_lines, pattern, Call, Expect, Step};
+use super::walk::{walk, Place};
+use crate::report::Answer;
+use crate::state::{State, IDLE, RUNNING, STARTED};
+
+/// Looks at one answered call. `draft` is `Err` where the description is broken, `output` what the
+/// call left of `step.output()`.
+pub fn call(draft: Result<&Draft, u8>, step: &Step, answer: &Answer, output: &[u8]) -> Result<(), String> {
+    as_expected(step, answer)?;
+    untouched(step, answer, output)?;
+    match draft {
+        Ok(draft) if answer.number == 0 => accepted(draft, step, answer, output),
+        _ => refused(step, answer),
+    }
+}
+
+fn must(holds: bool, what: &str) -> Result<(), String> {
+    if holds {
+        Ok(())
+    } else {
+        Err(what.to_string())
+    }
+}
+
+fn as_expected(step: &Step, answer: &Answer) -> Result<(), String> {
+    let fine = match step.expect {
+        Expect::Exactly(number, extra) => (answer.number, answer.extra) == (number, extra),
+        Expect::Late => matches!(answer.number, 0 | 7 | 8) && answer.extra == 0,
+        Expect::LateOrShort => matches!(answer.number, 0 | 7 | 8 | 9) && answer.extra == 0,
+    };
+    let given = (answer.number, answer.extra);
+    must(fine, &format!("{:?} expected, {given:?} answered", step.expect))
+}
+
+fn untouched(step: &Step, answer: &Answer, output: &[u8]) -> Result<(), String> {
+    must(answer.count <= output.len(), "the count passes the output")?;
+    let rest = output.iter().enumerate().skip(answer.count);
+    let same = rest.clone().all(|(at, &byte)| byte == pattern(at, step.salt));
+    must(same, "output bytes from the count on are touched")
+}
+
+fn refused(step: &Step, answer: &Answer) -> Result<(), String> {
+    must((1..=9).contains(&answer.number), "a number that is no refusal")?;
+    must(answer.count == 0, "a refusal with a count")?;
+    must(answer.state == step.state, "a refusal with another state")
+}
+
+fn accepted(draft: &Draft, step: &Step, answer: &Answer, output: &[u8]) -> Result<(), String> {
+    must(answer.extra == 0, "accepted with an extra number")?;
+    let line = line_bytes(draft);
+    must(answer.count % line == 0, "the count is no multiple of W + 10")?;
+    must(answer.count / line <= most_lines(draft), "more lines than a call can print")?;
+    match &step.call {
+        Call::Initiate => initiated(answer)?,
+        Call::Generate { record, .. } => generated(step, record, answer)?,
+        Call::Terminate => terminated(step, answer)?,
+    }
+    printed(draft, step, answer, &output[..answer.count])
+}
+
+fn initiated(answer: &Answer) -> Result<(), String> {
+    must(answer.count == 0, "INITIATE prints")?;
+    must(answer.state == State { phase: STARTED, ..State::fresh() }, "INITIATE gives another state")
+}
+
+fn generated(step: &Step, record: &[u8], answer: &Answer) -> Result<(), String> {
+    must(answer.state.phase == RUNNING, "GENERATE does not give running")?;
+    must(answer.state.page >= step.state.page, "the page falls")?;
+    let mut kept = [0; 256];
+    kept[..record.len()].copy_from_slice(record);
+    let old = step.state.phase == RUNNING && answer.state.kept == step.state.kept;
+    must(old || answer.state.kept == kept, "the kept record is neither the old one nor the new one")
+}
+
+fn terminated(step: &Step, answer: &Answer) -> Result<(), String> {
+    must(answer.state.phase == IDLE, "TERMINATE does not give idle")?;
+    must(answer.state.kept == step.state.kept, "TERMINATE keeps another record")?;
+    must(answer.state.flags == step.state.flags, "TERMINATE changes a flag")?;
+    if step.state.phase == STARTED {
+        must(answer.count == 0, "TERMINATE prints without a row")?;
+        must(answer.state == State::fresh(), "TERMINATE without a row does not give a fresh state")?;
+    }
+    Ok(())
+}
+
+/// Lines are well made; page and line rise from the state before to the state after; the groups due
+/// are there.
+fn printed(draft: &Draft, step: &Step, answer: &Answer, output: &[u8]) -> Result<(), String> {
+    let places: Vec<Place> =
+        output.chunks_exact(line_bytes(draft)).map(|line| place(draft, line)).collect::<Result<_, _>>()?;
+    let mut last = (step.state.page, step.state.line);
+    for &place in &places {
+        must(place > last, "page and line do not rise")?;
+        last = place;
+    }
+    if !matches!(step.call, Call::Initiate) {
+        let page = walk(draft, step, &places)?;
+        must(answer.state.page == page, "the state's page is not the last one printed")?;
+        must(
+            answer.state.line >= last.1 || page > last.0,
+            "the state's line stands above the last one printed",
+        )?;
+    }
+    Ok(())
+}
+
+/// Page and line of a printed line that is well made.
+fn place(draft: &Draft, line: &[u8]) -> Result<Place, String> {
+    let page = number(&line[..6]).ok_or("the page is not six digits")?;
+    let at = number(&line[6..9]).ok_or("the line is not three digits")? as u16;
+    must((draft.page.h..=draft.page.p).contains(&at), "a line outside the page")?;
+    must(line[9..line.len() - 1].iter().all(|byte| (32..=126).contains(byte)), "an unprintable byte")?;
+    must(line[line.len() - 1] == 10, "no byte 10 at the line's end")?;
+    Ok((page, at))
+}
+
+fn number(digits: &[u8]) -> Option<u32> {
+    let digit = |value: u32, byte: &u8| byte.is_ascii_digit().then(|| value * 10 + u32::from(byte - b'0'));
+    digits.iter().try_fold(0, digit)
+}

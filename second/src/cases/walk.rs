@@ -1,0 +1,121 @@
+//! The printed lines hold the groups that are due, in their order, each in its part of the page.
+
+use super::draft::{Block, Draft};
+use super::rows;
+use super::sequence::{Call, Step};
+use crate::description::{CF, CH, DE, LINE_NEXT_PAGE, LINE_RELATIVE, PF, PH, RF, RH};
+use crate::state::{RUNNING, STARTED};
+
+/// Page and line of a printed line.
+pub type Place = (u32, u16);
+
+/// The body groups with lines that a call prints, in their order.
+pub fn due<'a>(draft: &'a Draft, step: &Step) -> Vec<&'a Block> {
+    let levels = draft.controls.len();
+    let (footings, headings, detail) = match &step.call {
+        Call::Generate { d, .. } if step.state.phase == STARTED => (levels, 0, Some(*d)),
+        Call::Generate { d, record } => {
+            let kept = &step.state.kept[..record.len()];
+            let b = rows::break_level(draft, kept, record).unwrap_or(levels);
+            (b, b, Some(*d))
+        }
+        Call::Terminate if step.state.phase == RUNNING => (0, levels, None),
+        _ => (levels, levels, None),
+    };
+    let mut due: Vec<&Block> =
+        (footings..levels).rev().filter_map(|level| draft.group_at(CF, level)).collect();
+    due.extend((headings..levels).filter_map(|level| draft.group_at(CH, level)));
+    due.extend(detail.map(|d| &draft.groups[draft.groups_of(DE)[d as usize]]));
+    due.retain(|group| !group.lines.is_empty());
+    due
+}
+
+/// Follows an accepted call's lines and gives the page they end on.
+pub fn walk(draft: &Draft, step: &Step, places: &[Place]) -> Result<u32, String> {
+    let mut walk = Walk { draft, page: step.state.page, places };
+    let generate = matches!(step.call, Call::Generate { .. });
+    if generate && step.state.phase == STARTED {
+        walk.fixed(RH, draft.base(RH))?;
+        walk.fixed(PH, draft.base(PH))?;
+    }
+    for group in due(draft, step) {
+        walk.turn_pages()?;
+        walk.body(group)?;
+    }
+    if step.call == Call::Terminate && step.state.phase == RUNNING {
+        walk.fixed(PF, draft.page.ft)?;
+        walk.page += u32::from(own_page(draft));
+        walk.fixed(RF, draft.base(RF))?;
+    }
+    match walk.places {
+        [] => Ok(walk.page),
+        _ => Err(format!("{} lines more than the groups due have", walk.places.len())),
+    }
+}
+
+/// RF begins on a page of its own.
+pub fn own_page(draft: &Draft) -> bool {
+    draft.printed(RF).is_some_and(|group| group.first_kind() == Some(LINE_NEXT_PAGE))
+}
+
+/// The lines still to follow, and the page they should stand on.
+struct Walk<'a> {
+    draft: &'a Draft,
+    page: u32,
+    places: &'a [Place],
+}
+
+impl Walk<'_> {
+    /// Takes the lines of a group that begins at `start`.
+    fn take(&mut self, group: &Block, start: u16) -> Result<(), String> {
+        let mut line = start;
+        for (nth, row) in group.lines.iter().enumerate() {
+            line += if nth == 0 { 0 } else { row.integer };
+            let Some((&place, rest)) = self.places.split_first() else {
+                return Err(format!("a line is missing, due at {:?}", (self.page, line)));
+            };
+            if place != (self.page, line) {
+                return Err(format!("a line at {place:?}, due at {:?}", (self.page, line)));
+            }
+            self.places = rest;
+        }
+        Ok(())
+    }
+
+    /// Takes RH, PH, PF or RF, if it has lines; a relative one counts from `above`.
+    fn fixed(&mut self, kind: u16, above: u16) -> Result<(), String> {
+        match self.draft.printed(kind) {
+            Some(group) => self.take(group, group.start(above)),
+            None => Ok(()),
+        }
+    }
+
+    /// Takes the page changes before a body group, two at most.
+    fn turn_pages(&mut self) -> Result<(), String> {
+        let (ft, above) = (self.draft.page.ft, self.draft.page.h - 1);
+        for _ in 0..2 {
+            let turned = |place: &Place| place.0 > self.page || place.1 > ft;
+            if !self.places.first().is_some_and(turned) {
+                break;
+            }
+            self.fixed(PF, ft)?;
+            self.page += 1;
+            self.fixed(PH, above)?;
+        }
+        Ok(())
+    }
+
+    /// Takes a body group: at its own line, or anywhere it fits where that is relative.
+    fn body(&mut self, group: &Block) -> Result<(), String> {
+        let first = &group.lines[0];
+        if first.kind != LINE_RELATIVE {
+            return self.take(group, first.integer);
+        }
+        let (top, low) = self.draft.window(group.kind);
+        let line = self.places.first().map_or(top, |place| place.1);
+        if line < top || line + group.span() > low {
+            return Err(format!("a body group at {line}, outside {top} to {low}"));
+        }
+        self.take(group, line)
+    }
+}
