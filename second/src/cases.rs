@@ -6,6 +6,7 @@
 
 mod broken;
 mod draft;
+mod features;
 mod keep;
 mod rng;
 mod rows;
@@ -16,7 +17,7 @@ mod tally;
 mod valid;
 mod walk;
 
-pub use draft::Draft;
+pub use draft::{Block, Count, Draft, Page, Row};
 pub use keep::call as keeps;
 pub use rng::Rng;
 pub use sample::{damaged, sample, Sample};
@@ -25,6 +26,7 @@ pub use tally::Tally;
 
 use crate::description::check;
 use crate::report::{self, Answer};
+use crate::state::State;
 
 /// A random description; about half of them keep D1 to D8.
 pub fn description(rng: &mut Rng) -> Vec<u8> {
@@ -141,16 +143,16 @@ fn read_args(args: &[String]) -> Result<Amounts, String> {
 }
 
 fn run_and_report(amounts: Amounts) -> i32 {
-    let (tally, wrong) = run(amounts, &|line| eprintln!("{line}"));
-    print!("{}", tally.report(amounts.all));
-    let missing = tally.missing();
+    let run = Run::of(amounts, &|line| eprintln!("{line}"));
+    print!("{}", run.tally.report(amounts.all));
+    let missing = run.tally.missing();
     for name in &missing {
         println!("NOT REACHED: {name}");
     }
-    for line in &wrong {
+    for line in &run.wrong {
         println!("WRONG: {line}");
     }
-    if missing.is_empty() && wrong.is_empty() {
+    if missing.is_empty() && run.wrong.is_empty() {
         println!("all reached, nothing wrong (seed {})", amounts.seed);
         return 0;
     }
@@ -158,64 +160,67 @@ fn run_and_report(amounts: Amounts) -> i32 {
 }
 
 /// The most wrong answers that are told.
-const TOLD: usize = 5;
+const TOLD: usize = 10;
 
-/// Runs everything; gives the counts and what went wrong.
-fn run(amounts: Amounts, progress: &dyn Fn(&str)) -> (Tally, Vec<String>) {
-    let mut rng = Rng::new(amounts.seed);
-    let mut tally = Tally::new();
-    let mut wrong = Vec::new();
-    check_descriptions(&mut rng, amounts.descriptions, &mut tally, &mut wrong, progress);
-    make_calls(&mut rng, amounts.calls, &mut tally, &mut wrong, progress);
-    (tally, wrong)
+/// A progress line comes every so many descriptions or calls.
+const STRIDE: usize = 25_000;
+
+/// A run of the second program: the counts and what went wrong.
+struct Run<'a> {
+    tally: Tally,
+    wrong: Vec<String>,
+    progress: &'a dyn Fn(&str),
 }
 
-fn check_descriptions(
-    rng: &mut Rng,
-    count: usize,
-    tally: &mut Tally,
-    wrong: &mut Vec<String>,
-    progress: &dyn Fn(&str),
-) {
-    for done in 1..=count {
-        let sample = sample(rng);
-        let rule = check(&sample.bytes).map_or_else(|rule| rule, |_| 0);
-        if sample.rule.is_some_and(|known| known != rule) && wrong.len() < TOLD {
-            let known = sample.rule.unwrap_or(0);
-            let bytes = hex(&sample.bytes);
-            wrong.push(format!("CHECK answers {rule}, not {known} ({}): {bytes}", sample.name));
+impl Run<'_> {
+    fn of(amounts: Amounts, progress: &dyn Fn(&str)) -> Run<'_> {
+        let mut rng = Rng::new(amounts.seed);
+        let mut run = Run { tally: Tally::new(), wrong: Vec::new(), progress };
+        for done in 1..=amounts.descriptions {
+            run.check(&sample(&mut rng));
+            run.tell(done, amounts.descriptions, "descriptions");
         }
-        tally.check(sample.name, &sample.bytes, rule);
-        if done % 25_000 == 0 {
-            progress(&format!("{done} descriptions of {count}"));
+        let mut done = 0;
+        while done < amounts.calls {
+            let Case { seed, desc, mut steps } = case(rng.draw());
+            let mut last = None;
+            while let Some(step) = steps.step(last.as_ref()) {
+                last = Some(run.call(seed, &desc, &steps, &step));
+                done += 1;
+                run.tell(done, amounts.calls, "calls");
+            }
+        }
+        run
+    }
+
+    fn check(&mut self, sample: &Sample) {
+        let rule = check(&sample.bytes).map_or_else(|rule| rule, |_| 0);
+        if let Some(known) = sample.rule.filter(|&known| known != rule) {
+            let bytes = hex(&sample.bytes);
+            self.note(format!("CHECK answers {rule}, not {known} ({}): {bytes}", sample.name));
+        }
+        self.tally.check(sample.name, &sample.bytes, rule);
+    }
+
+    fn call(&mut self, seed: u64, desc: &[u8], steps: &Sequence, step: &Step) -> Answer {
+        let (answer, output) = play(desc, step);
+        if let Err(what) = keeps(steps.draft(), step, &answer, &output) {
+            self.note(format!("{what}: {} (--case {seed})", outline(step, &answer)));
+        }
+        self.tally.call(steps.draft(), step, &answer);
+        answer
+    }
+
+    fn note(&mut self, line: String) {
+        if self.wrong.len() < TOLD {
+            (self.progress)(&line);
+            self.wrong.push(line);
         }
     }
-}
 
-fn make_calls(
-    rng: &mut Rng,
-    count: usize,
-    tally: &mut Tally,
-    wrong: &mut Vec<String>,
-    progress: &dyn Fn(&str),
-) {
-    let mut done = 0;
-    while done < count {
-        let Case { seed, desc, mut steps } = case(rng.draw());
-        let mut last = None;
-        while let Some(step) = steps.step(last.as_ref()) {
-            let (answer, output) = play(&desc, &step);
-            if let Err(what) = keeps(steps.draft(), &step, &answer, &output) {
-                if wrong.len() < TOLD {
-                    wrong.push(format!("{what}: {} (--case {seed})", outline(&step, &answer)));
-                }
-            }
-            tally.call(steps.draft(), &step, &answer);
-            last = Some(answer);
-            done += 1;
-            if done % 25_000 == 0 {
-                progress(&format!("{done} calls of {count}"));
-            }
+    fn tell(&self, done: usize, count: usize, what: &str) {
+        if done.is_multiple_of(STRIDE) {
+            (self.progress)(&format!("{done} {what} of {count}"));
         }
     }
 }
@@ -255,13 +260,17 @@ fn outline(step: &Step, answer: &Answer) -> String {
         Call::Generate { d, .. } => format!("GENERATE detail {d}"),
         Call::Terminate => "TERMINATE".to_string(),
     };
-    let (before, after) = (&step.state, &answer.state);
+    let (before, after) = (place(&step.state), place(&answer.state));
+    let Answer { number, extra, count, .. } = answer;
     format!(
-        "{call}, {}, room {}: phase {} page {} line {} seen {} saved {} -> {} {}, {} bytes, phase {} page {} line {} seen {} saved {}",
-        step.name, step.room, before.phase, before.page, before.line, before.seen, before.saved,
-        answer.number, answer.extra, answer.count,
-        after.phase, after.page, after.line, after.seen, after.saved,
+        "{call} ({}), room {}, {before} -> {number} {extra}, {count} bytes, {after}",
+        step.name, step.room
     )
+}
+
+fn place(state: &State) -> String {
+    let State { phase, page, line, seen, saved, .. } = state;
+    format!("phase {phase} page {page} line {line} seen {seen} saved {saved}")
 }
 
 fn hex(bytes: &[u8]) -> String {
@@ -271,8 +280,6 @@ fn hex(bytes: &[u8]) -> String {
 #[cfg(test)]
 mod tests {
     use super::*;
-
-    fn quiet(_: &str) {}
 
     #[test]
     fn a_draft_is_read_back_as_it_was_written() {
@@ -322,10 +329,10 @@ mod tests {
     #[test]
     fn a_small_run_reaches_every_rule_and_refusal() {
         let amounts = Amounts { seed: 1, descriptions: 4_000, calls: 10_000, all: false, case: None };
-        let (tally, wrong) = run(amounts, &quiet);
-        assert_eq!(wrong, Vec::<String>::new());
-        assert!(tally.rules.iter().all(|&times| times > 0), "{:?}", tally.rules);
-        let never = tally.missing().into_iter().filter(|name| name.contains(": refusal "));
-        assert_eq!(never.collect::<Vec<_>>(), Vec::<String>::new());
+        let run = Run::of(amounts, &|_| {});
+        assert_eq!(run.wrong, Vec::<String>::new());
+        let missing = run.tally.missing();
+        let never = missing.iter().filter(|name| name.contains("CHECK") || name.contains(": refusal "));
+        assert_eq!(never.collect::<Vec<_>>(), Vec::<&String>::new());
     }
 }

@@ -49,6 +49,12 @@ pub struct Field {
     pub width: u16,
 }
 
+impl From<[u16; 3]> for Field {
+    fn from([kind, offset, width]: [u16; 3]) -> Field {
+        Field { kind, offset, width }
+    }
+}
+
 #[derive(Clone, Copy, Debug, Default, PartialEq, Eq)]
 pub struct Group {
     /// The group's type, `RH` to `RF`.
@@ -60,12 +66,24 @@ pub struct Group {
     pub next_integer: u16,
 }
 
+impl From<[u16; 6]> for Group {
+    fn from([kind, level, first_line, line_count, next_kind, next_integer]: [u16; 6]) -> Group {
+        Group { kind, level, first_line, line_count, next_kind, next_integer }
+    }
+}
+
 #[derive(Clone, Copy, Debug, Default, PartialEq, Eq)]
 pub struct Line {
     pub kind: u16,
     pub integer: u16,
     pub first_item: u16,
     pub item_count: u16,
+}
+
+impl From<[u16; 4]> for Line {
+    fn from([kind, integer, first_item, item_count]: [u16; 4]) -> Line {
+        Line { kind, integer, first_item, item_count }
+    }
 }
 
 #[derive(Clone, Copy, Debug, Default, PartialEq, Eq)]
@@ -78,6 +96,12 @@ pub struct Item {
     pub indicate: u16,
 }
 
+impl From<[u16; 6]> for Item {
+    fn from([column, width, source, index, decimals, indicate]: [u16; 6]) -> Item {
+        Item { column, width, source, index, decimals, indicate }
+    }
+}
+
 #[derive(Clone, Copy, Debug, Default, PartialEq, Eq)]
 pub struct Counter {
     pub group: u16,
@@ -86,11 +110,23 @@ pub struct Counter {
     pub addend_count: u16,
 }
 
+impl From<[u16; 4]> for Counter {
+    fn from([group, reset, first_addend, addend_count]: [u16; 4]) -> Counter {
+        Counter { group, reset, first_addend, addend_count }
+    }
+}
+
 #[derive(Clone, Copy, Debug, Default, PartialEq, Eq)]
 pub struct Addend {
     pub kind: u16,
     pub index: u16,
     pub mask: u16,
+}
+
+impl From<[u16; 3]> for Addend {
+    fn from([kind, index, mask]: [u16; 3]) -> Addend {
+        Addend { kind, index, mask }
+    }
 }
 
 /// The decoded tables of a description.
@@ -187,54 +223,22 @@ fn part<T>(table: &[T], first: u16, count: u16) -> &[T] {
 /// "At least 48 bytes; version 1; first start 0, each section beginning where the one before ends, literals
 /// ending at the trailer", and no section with too many entries.
 fn d1(bytes: &[u8]) -> Option<Description> {
-    let trailer_start = bytes.len().checked_sub(TRAILER_BYTES)?;
-    let trailer = numbers(&bytes[trailer_start..]);
-    let [p, h, fd, ld, ft, w, r, version] = trailer[16..] else {
-        return None;
-    };
+    let (body, trailer) = bytes.split_last_chunk::<TRAILER_BYTES>()?;
+    let trailer = numbers(trailer);
+    let (sections, limits) = trailer.split_at(16);
+    let &[p, h, fd, ld, ft, w, r, version] = limits else { return None };
     if version != 1 {
         return None;
     }
-    let mut sections: Vec<&[u8]> = Vec::new();
-    let mut place = 0;
-    for (pair, (size, most)) in trailer[..16].chunks_exact(2).zip(SECTIONS) {
-        let (start, count) = (usize::from(pair[0]), usize::from(pair[1]));
-        if start != place || count > most {
-            return None;
-        }
-        place += count * size;
-        sections.push(bytes[..trailer_start].get(start..place)?);
-    }
-    if place != trailer_start {
-        return None;
-    }
+    let sections = sections_of(body, sections)?;
     Some(Description {
-        fields: entries(sections[0], |[kind, offset, width]| Field { kind, offset, width }),
+        fields: entries(sections[0], Field::from),
         controls: numbers(sections[1]),
-        groups: entries(sections[2], |[kind, level, first_line, line_count, next_kind, next_integer]| {
-            Group { kind, level, first_line, line_count, next_kind, next_integer }
-        }),
-        lines: entries(sections[3], |[kind, integer, first_item, item_count]| Line {
-            kind,
-            integer,
-            first_item,
-            item_count,
-        }),
-        items: entries(sections[4], |[column, width, source, index, decimals, indicate]| Item {
-            column,
-            width,
-            source,
-            index,
-            decimals,
-            indicate,
-        }),
-        counters: entries(sections[5], |[group, reset, first_addend, addend_count]| Counter {
-            group,
-            reset,
-            first_addend,
-            addend_count,
-        }),
-        addends: entries(sections[6], |[kind, index, mask]| Addend { kind, index, mask }),
+        groups: entries(sections[2], Group::from),
+        lines: entries(sections[3], Line::from),
+        items: entries(sections[4], Item::from),
+        counters: entries(sections[5], Counter::from),
+        addends: entries(sections[6], Addend::from),
         literals: sections[7].to_vec(),
         p,
         h,
@@ -246,13 +250,28 @@ fn d1(bytes: &[u8]) -> Option<Description> {
     })
 }
 
+/// The bytes of each section, by the trailer's starts and counts.
+fn sections_of<'a>(body: &'a [u8], starts_and_counts: &[u16]) -> Option<Vec<&'a [u8]>> {
+    let mut sections = Vec::with_capacity(SECTIONS.len());
+    let mut place = 0;
+    for (pair, (size, most)) in starts_and_counts.chunks_exact(2).zip(SECTIONS) {
+        let (start, count) = (usize::from(pair[0]), usize::from(pair[1]));
+        if start != place || count > most {
+            return None;
+        }
+        place += count * size;
+        sections.push(body.get(start..place)?);
+    }
+    (place == body.len()).then_some(sections)
+}
+
 /// "Numbers are 2 bytes, low byte first."
 fn numbers(bytes: &[u8]) -> Vec<u16> {
     bytes.chunks_exact(2).map(|pair| u16::from_le_bytes([pair[0], pair[1]])).collect()
 }
 
-/// A section of entries of `N` numbers each.
-fn entries<const N: usize, T>(section: &[u8], entry: impl Fn([u16; N]) -> T) -> Vec<T> {
+/// The entries of a section, of `N` numbers each.
+fn entries<const N: usize, T>(section: &[u8], entry: fn([u16; N]) -> T) -> Vec<T> {
     let number = |bytes: &[u8], i: usize| u16::from_le_bytes([bytes[2 * i], bytes[2 * i + 1]]);
     section.chunks_exact(2 * N).map(|bytes| entry(std::array::from_fn(|i| number(bytes, i)))).collect()
 }

@@ -38,8 +38,11 @@ impl Call {
     }
 }
 
-/// For each refusal a change that deserves it, and its extra number.
-const DESERVE: [(fn(&mut Call), u32); 9] = [
+/// A change to a call that deserves a refusal, and the refusal's extra number.
+type Deserve = (fn(&mut Call), u32);
+
+/// One for each refusal, in order.
+const DESERVE: [Deserve; 9] = [
     (
         |call| {
             let mut b = whole_run();
@@ -104,11 +107,14 @@ fn refusal_3_is_about_the_phase() {
     let running = Call::new().state;
     for (phase, state) in [idle, started, running].iter().enumerate() {
         let (mut big, mut empty) = ([0; 1000], []);
-        assert_eq!(initiate(&desc, state).number, [0, 3, 3][phase]);
-        assert_eq!(generate(&desc, state, 0, b"AA+001", &mut big).number, [3, 0, 0][phase]);
-        assert_eq!(terminate(&desc, state, &mut big).number, [3, 0, 0][phase]);
+        let answers = |answer: Answer, numbers: [u8; 3]| {
+            assert_eq!((answer.number, answer.extra), (numbers[phase], 0), "phase {phase}");
+        };
+        answers(initiate(&desc, state), [0, 3, 3]);
+        answers(generate(&desc, state, 0, b"AA+001", &mut big), [3, 0, 0]);
+        answers(terminate(&desc, state, &mut big), [3, 0, 0]);
         // An empty output is enough for a call without lines.
-        assert_eq!(terminate(&desc, state, &mut empty).number, [3, 0, 9][phase]);
+        answers(terminate(&desc, state, &mut empty), [3, 0, 9]);
     }
 }
 
@@ -183,12 +189,14 @@ fn summing() -> Builder {
     b
 }
 
+/// Sums before, detail, record, and the sums after when accepted.
+type Addition = ([i64; 3], u32, &'static [u8], Option<[i64; 3]>);
+
 #[test]
 fn refusal_7_is_any_addition() {
     let desc = summing().bytes();
-    // (sums before, detail, record, accepted sums or None)
     let l = SUM_LIMIT;
-    let rows: [([i64; 3], u32, &[u8], Option<[i64; 3]>); 10] = [
+    let rows: [Addition; 10] = [
         // Subtotal, the last sum in range and the first beyond it, both signs.
         ([l - 9, 0, 0], 0, b"AA+009", Some([l, 0, 0])),
         ([l - 8, 0, 0], 0, b"AA+009", None),
@@ -219,7 +227,8 @@ fn refusal_7_is_any_addition() {
         let mut state = State { phase: RUNNING, ..State::fresh() };
         state.keep(b"AA+000");
         (state.sums[0], state.sums[2]) = (5, sum);
-        assert_eq!(terminate(&desc, &state, &mut []).number, number);
+        let answer = terminate(&desc, &state, &mut []);
+        assert_eq!((answer.number, answer.extra), (number, 0));
     }
 }
 

@@ -102,6 +102,8 @@ fn a_page_heading_or_footing_reads_as_the_group_it_prints_for() {
     b.item(item(5, 1, FIELD, agent));
     says(&mut b, PF, 0, LINE_ABSOLUTE, 9, "PF");
     b.item(item(5, 1, FIELD, agent));
+    says(&mut b, RF, 0, LINE_RELATIVE, 1, "RF");
+    b.item(item(5, 1, FIELD, agent));
     let mut run = Run::begin(&b.bytes());
     run.state = State { phase: RUNNING, line: 8, seen: 1, ..State::fresh() };
     run.state.keep(b"a1");
@@ -113,6 +115,11 @@ fn a_page_heading_or_footing_reads_as_the_group_it_prints_for() {
     run.state.line = 7;
     run.generate(0, b"c3");
     assert_eq!(printed(&run), ["2/8 CF  b", "2/9 PF  c", "3/1 PH  c", "3/3 CH  c", "3/4 DE  c3"]);
+    // "All that TERMINATE prints" reads the kept record, a page change for its footing too.
+    run.sheet.clear();
+    run.state.line = 8;
+    run.terminate();
+    assert_eq!(printed(&run), ["3/9 PF  c", "4/1 PH  c", "4/3 CF  c", "4/9 PF  c", "4/10 RF  c"]);
 }
 
 #[test]
@@ -339,7 +346,17 @@ fn the_report_footing_starts_where_d6_says() {
 
 /// One call of a body group on the marked page from (line, seen, saved): where it lands, and what it leaves.
 fn lands(kind: u16, line_kind: u16, n: u16, span: u16, from: (u16, u8, u16)) -> (u32, String, u16, u16) {
-    let mut b = marked_page(2, 1);
+    lands_on(marked_page(2, 1), kind, line_kind, n, span, from)
+}
+
+fn lands_on(
+    mut b: Builder,
+    kind: u16,
+    line_kind: u16,
+    n: u16,
+    span: u16,
+    from: (u16, u8, u16),
+) -> (u32, String, u16, u16) {
     let field = b.text(0, 1);
     b.control(field);
     if kind == CF {
@@ -402,6 +419,22 @@ fn body_groups_land() {
         let row = (kind, line_kind, n, span, from);
         assert_eq!((first.as_str(), left, saved), (at, line, 0), "{row:?}");
         assert_eq!(page.to_string(), at[..1], "{row:?}");
+    }
+}
+
+#[test]
+fn saved_may_be_1_where_fd_is_1() {
+    // (first line, where it lands from line FT with saved 1)
+    for (line_kind, n, at) in [
+        (LINE_ABSOLUTE, 1, "3/1 X"),
+        (LINE_ABSOLUTE, 2, "2/2 X"),
+        (LINE_RELATIVE, 1, "2/2 X"),
+        (LINE_NEXT_PAGE, 1, "3/1 X"),
+        (LINE_NEXT_PAGE, 2, "2/2 X"),
+    ] {
+        let page = Builder::new(10, 1, 1, 6, 8, 2, 1);
+        let (_, first, _, saved) = lands_on(page, DE, line_kind, n, 0, (8, 1, 1));
+        assert_eq!((first.as_str(), saved), (at, 0), "line kind {line_kind}, n {n}");
     }
 }
 

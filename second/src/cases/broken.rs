@@ -79,6 +79,7 @@ const FAULTS: [&[(&str, Way)]; 8] = [
         ("D6 on the group above", Number(on_the_group_above)),
         ("D6 page limit moved", Number(page_limit_moved)),
         ("D6 seventeen lines", Shape(seventeen_lines)),
+        ("D6 step of 100", Shape(step_of_100)),
     ],
     &[
         ("D7 column", Number(item_column)),
@@ -88,6 +89,7 @@ const FAULTS: [&[(&str, Way)]; 8] = [
         ("D7 field outside a detail", Number(field_item)),
         ("D7 sum of another group", Number(sum_item)),
         ("D7 decimals", Number(item_decimals)),
+        ("D7 decimals as wide as the item", Number(wide_decimals)),
         ("D7 indicate", Number(item_indicate)),
         ("D7 literal byte", Bytes(literal_byte)),
         ("D7 literals cut", Shape(literals_cut)),
@@ -556,6 +558,11 @@ fn seventeen_lines(_: &mut Rng, mut draft: Draft) -> Option<Draft> {
     (draft.line_count() <= 128).then_some(draft)
 }
 
+/// In its part of the page, but for the step.
+fn step_of_100(rng: &mut Rng, mut draft: Draft) -> Option<Draft> {
+    valid::stretch(rng, &mut draft, 100).then_some(draft)
+}
+
 // ---- D7
 
 /// An item and where it stands.
@@ -637,17 +644,25 @@ fn sum_item(rng: &mut Rng, draft: &Draft) -> Option<Change> {
     in_item(place, 3, rng.maybe(&others)?)
 }
 
+/// A number field or a sum.
+fn shows_number(draft: &Draft, item: &Item) -> bool {
+    match item.source {
+        FIELD => draft.fields[item.index as usize].kind == NUMBER,
+        source => source == SUM,
+    }
+}
+
 fn item_decimals(rng: &mut Rng, draft: &Draft) -> Option<Change> {
     let place = some_item(rng, draft)?;
-    let number = match place.item.source {
-        FIELD => draft.fields[place.item.index as usize].kind == NUMBER,
-        source => source == SUM,
-    };
-    let value = match number {
-        true => rng.pick(&[5, place.item.width.max(5), place.item.width.min(5), 65535]),
-        false => rng.pick(&[1, 4, 65535]),
-    };
-    in_item(place, 4, value)
+    let values = if shows_number(draft, &place.item) { [5, 6, 65535] } else { [1, 4, 65535] };
+    in_item(place, 4, rng.pick(&values))
+}
+
+fn wide_decimals(rng: &mut Rng, draft: &Draft) -> Option<Change> {
+    let narrow = |place: &ItemPlace| place.item.width <= 4 && shows_number(draft, &place.item);
+    let places: Vec<ItemPlace> = draft.item_places().into_iter().filter(narrow).collect();
+    let place = rng.maybe(&places)?;
+    in_item(place, 4, place.item.width)
 }
 
 fn item_indicate(rng: &mut Rng, draft: &Draft) -> Option<Change> {

@@ -51,7 +51,7 @@ fn refused(step: &Step, answer: &Answer) -> Result<(), String> {
 fn accepted(draft: &Draft, step: &Step, answer: &Answer, output: &[u8]) -> Result<(), String> {
     must(answer.extra == 0, "accepted with an extra number")?;
     let line = line_bytes(draft);
-    must(answer.count % line == 0, "the count is no multiple of W + 10")?;
+    must(answer.count.is_multiple_of(line), "the count is no multiple of W + 10")?;
     must(answer.count / line <= most_lines(draft), "more lines than a call can print")?;
     match &step.call {
         Call::Initiate => initiated(answer)?,

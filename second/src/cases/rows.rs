@@ -44,7 +44,8 @@ fn fields_of(draft: &Draft, kind: u16) -> impl Iterator<Item = Field> + '_ {
     draft.fields.iter().copied().filter(move |field| field.kind == kind)
 }
 
-fn bytes_of(field: Field, row: &[u8]) -> &[u8] {
+/// A field's bytes.
+pub fn bytes_of(field: Field, row: &[u8]) -> &[u8] {
     &row[field.offset as usize..][..field.width as usize]
 }
 

@@ -64,6 +64,8 @@ pub struct Sequence {
     state: State,
     row: Vec<u8>,
     left: usize,
+    /// How often, in a hundred steps, it goes on from a state far away.
+    jumps: usize,
     /// Steps to follow, the next one last.
     waiting: Vec<Step>,
     last: Option<Step>,
@@ -75,7 +77,17 @@ impl Sequence {
         let mut rng = rng.fork();
         let row = draft.as_ref().map_or(Vec::new(), |draft| rows::fresh(&mut rng, draft));
         let draft = draft.map(Rc::new);
-        Sequence { rng, draft, state: State::fresh(), row, left: calls, waiting: Vec::new(), last: None }
+        let jumps = rng.pick(&[0, 0, 30, 60]);
+        Sequence {
+            rng,
+            draft,
+            state: State::fresh(),
+            row,
+            left: calls,
+            jumps,
+            waiting: Vec::new(),
+            last: None,
+        }
     }
 
     pub fn draft(&self) -> Result<&Draft, u8> {
@@ -139,14 +151,13 @@ pub const MANNERS: [&str; 7] = [ORDINARY, PROBE, SHORT, ENOUGH, ANY_ROOM, FAULTY
 
 impl Sequence {
     fn invent(&mut self, draft: &Draft) -> Step {
-        match self.rng.below(100) {
-            0..=19 => self.faulty(draft),
-            20..=31 => {
-                self.jump(draft);
-                self.ordinary(draft)
-            }
-            _ => self.ordinary(draft),
+        if self.rng.chance(20) {
+            return self.faulty(draft);
         }
+        if self.rng.chance(self.jumps) {
+            self.jump(draft);
+        }
+        self.ordinary(draft)
     }
 
     /// Goes on from a state far away instead, but one in order.

@@ -33,12 +33,12 @@ pub fn running(rng: &mut Rng, draft: &Draft, kept: &[u8]) -> Option<State> {
     state.seen = u8::from(rng.chance(80));
     state.line = match state.seen {
         0 => rng.number(0, limits.fd - 1),
-        _ if rng.chance(40) => limits.ft,
+        _ if rng.chance(50) => limits.ft,
         _ => rng.number(limits.fd, limits.ft),
     };
-    if state.seen == 1 && state.line == limits.ft && rng.chance(60) {
+    if state.seen == 1 && state.line == limits.ft && rng.chance(75) {
         let any = rng.number(limits.fd, limits.ft);
-        state.saved = rng.pick(&[limits.fd, limits.ft, any, any]);
+        state.saved = rng.pick(&[limits.fd, limits.fd, limits.ft, any]);
     }
     let near_the_limit = rng.chance(50);
     for sum in &mut state.sums[..draft.counters.len()] {
@@ -60,7 +60,7 @@ fn page(rng: &mut Rng) -> u32 {
 fn any_sum(rng: &mut Rng) -> i64 {
     let sum = match rng.below(6) {
         0 => LARGEST_SUM,
-        1 => LARGEST_SUM - rng.below(200) as i64,
+        1 => LARGEST_SUM - rng.below(10) as i64,
         2 => LARGEST_SUM / 2 + rng.below(3) as i64,
         3 => (rng.draw() % LARGEST_SUM as u64) as i64,
         _ => rng.below(100_000) as i64,
@@ -90,7 +90,7 @@ pub fn damaged(rng: &mut Rng, draft: &Draft, state: &State) -> (State, &'static 
 }
 
 /// Names of all damages.
-pub const DAMAGES: [&str; 22] = [
+pub const DAMAGES: [&str; 23] = [
     "phase",
     "page",
     "line",
@@ -113,6 +113,7 @@ pub const DAMAGES: [&str; 22] = [
     "sum beyond",
     "flag beyond",
     "kept record",
+    "kept beyond",
 ];
 
 /// Something no phase allows.
@@ -151,7 +152,7 @@ fn no_longer_fresh(rng: &mut Rng, draft: &Draft, state: &mut State) -> Option<&'
 /// Something in range that a running state may not have; `None` where the draft gives no place.
 fn not_running_so(rng: &mut Rng, draft: &Draft, state: &mut State) -> Option<&'static str> {
     let limits = &draft.page;
-    let damage = 14 + rng.below(8);
+    let damage = 14 + rng.below(9);
     match damage {
         14 => {
             (state.seen, state.saved) = (1, 0);
@@ -187,19 +188,17 @@ fn not_running_so(rng: &mut Rng, draft: &Draft, state: &mut State) -> Option<&'s
             let beyond = 8 - draft.details();
             (beyond > 0).then(|| state.flags[7 - rng.below(beyond)] = 1)?;
         }
-        _ => damage_kept(rng, draft, state)?,
+        21 => {
+            let kept = &mut state.kept[..draft.record as usize];
+            rows::malform(rng, draft, kept);
+            rows::first_malformed(draft, kept)?;
+        }
+        _ => {
+            let beyond = 256 - draft.record as usize;
+            let any = rng.below(beyond.max(1));
+            let at = rng.pick(&[0, beyond.saturating_sub(1), any]);
+            (beyond > 0).then(|| state.kept[255 - at] = rng.pick(&[1, 32, b'0', 255]))?;
+        }
     }
     Some(DAMAGES[damage])
-}
-
-/// A kept record that is malformed, or not followed by zeros.
-fn damage_kept(rng: &mut Rng, draft: &Draft, state: &mut State) -> Option<()> {
-    let length = draft.record as usize;
-    if rng.chance(50) {
-        let at = rng.maybe(&[length, 255, (length + 256) / 2])?;
-        *state.kept.get_mut(at.max(length))? = rng.pick(&[1, 32, b'0', 255]);
-        return Some(());
-    }
-    rows::malform(rng, draft, &mut state.kept[..length]);
-    rows::first_malformed(draft, &state.kept[..length]).map(drop)
 }

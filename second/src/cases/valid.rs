@@ -42,6 +42,9 @@ fn build(rng: &mut Rng, rich: bool) -> Draft {
     add_controls(rng, &mut draft, rich);
     add_groups(rng, &mut draft, rich);
     add_lines(rng, &mut draft, rich);
+    if rng.chance(3) {
+        stretch(rng, &mut draft, 99);
+    }
     add_counters(rng, &mut draft);
     add_items(rng, &mut draft);
     draft
@@ -132,6 +135,9 @@ fn add_fields(rng: &mut Rng, draft: &mut Draft, rich: bool) {
         2..=8 => rng.between(2, 7),
         _ => rng.between(1, 16),
     };
+    if wanted == 32 && rng.chance(70) {
+        draft.record = rng.number(100, 256);
+    }
     let mut free = 0;
     for _ in 0..wanted {
         let field = next_field(rng, draft, free, wanted);
@@ -254,23 +260,15 @@ fn step(rng: &mut Rng) -> u16 {
 
 fn add_lines(rng: &mut Rng, draft: &mut Draft, rich: bool) {
     let mut left = LIMITS[Section::Lines as usize];
-    let (heads, feet) = (Halves::of(rng, draft, RH), Halves::of(rng, draft, PF));
     let mut order: Vec<usize> = (0..draft.groups.len()).collect();
     // PH counts from RH, RF from PF: those come first.
     order.sort_by_key(|&g| matches!(draft.groups[g].kind, PH | RF));
-    // Where most groups have no lines, a call prints a single one now and then.
-    let lineless = if rich { 0 } else { rng.pick(&[10, 15, 15, 60, 80]) };
-    for g in order {
+    let lineless = if rich { vec![false; order.len()] } else { lineless(rng, draft) };
+    for g in order.into_iter().filter(|&g| !lineless[g]) {
         let kind = draft.groups[g].kind;
-        if rng.chance(lineless) {
-            continue;
-        }
         let lines = match kind {
-            RH => fixed_lines(rng, draft, RH, heads.upper, left),
-            PH => fixed_lines(rng, draft, PH, heads.lower, left),
-            PF => fixed_lines(rng, draft, PF, feet.upper, left),
             RF if rng.chance(35) => own_page_lines(rng, &draft.page, left),
-            RF => fixed_lines(rng, draft, RF, feet.lower, left),
+            RH | PH | PF | RF => fixed_lines(rng, draft, kind, left),
             _ => body_lines(rng, draft, kind, left),
         };
         left -= lines.len();
@@ -278,38 +276,40 @@ fn add_lines(rng: &mut Rng, draft: &mut Draft, rich: bool) {
     }
 }
 
-/// The heading's part of the page, or the footing's, shared between two groups.
-struct Halves {
-    upper: (u16, u16),
-    lower: (u16, u16),
-}
-
-impl Halves {
-    fn of(rng: &mut Rng, draft: &Draft, first: u16) -> Halves {
-        let (top, bottom) = draft.window(first);
-        if bottom <= top {
-            // One line or none: the first to come takes it.
-            return Halves { upper: (top, bottom), lower: (top, bottom) };
+/// Which groups get no lines: a few, most, or all body groups but one, which then prints alone.
+fn lineless(rng: &mut Rng, draft: &Draft) -> Vec<bool> {
+    let percent = rng.pick(&[10, 15, 15, 60]);
+    let mut lineless: Vec<bool> = draft.groups.iter().map(|_| rng.chance(percent)).collect();
+    let kind = rng.pick(&[CH, CH, DE, CF, CF]);
+    let only = rng.maybe(&draft.groups_of(kind)).filter(|_| rng.chance(35));
+    if let Some(only) = only {
+        for g in (0..draft.groups.len()).filter(|&g| draft.groups[g].is_body()) {
+            lineless[g] = g != only;
         }
-        let cut = rng.number(top, bottom - 1);
-        Halves { upper: (top, cut), lower: (cut + 1, bottom) }
     }
+    lineless
 }
 
-/// Lines of RH, PH, PF or RF within a part of the page; none where there is no room.
-fn fixed_lines(rng: &mut Rng, draft: &Draft, kind: u16, part: (u16, u16), left: usize) -> Vec<Row> {
+/// Lines of RH, PH, PF or RF in their part of the page; none where there is no room. RH and PF leave
+/// some for the group below.
+fn fixed_lines(rng: &mut Rng, draft: &Draft, kind: u16, left: usize) -> Vec<Row> {
     let base = draft.base(kind);
-    let top = if matches!(kind, PH | RF) { part.0.max(base + 1) } else { part.0 };
-    if top > part.1 || left == 0 {
+    let (mut top, mut bottom) = draft.window(kind);
+    match kind {
+        PH | RF => top = top.max(base + 1),
+        _ if top < bottom => bottom = rng.number(top, bottom - 1),
+        _ => {}
+    }
+    if top > bottom || left == 0 {
         return Vec::new();
     }
-    let start = if rng.chance(60) { top } else { rng.number(top, part.1) };
+    let start = if rng.chance(60) { top } else { rng.number(top, bottom) };
     let first = if kind != PF && rng.chance(50) {
         Row::new(LINE_RELATIVE, start - base)
     } else {
         Row::new(LINE_ABSOLUTE, start)
     };
-    with_later_lines(rng, first, part.1 - start, left)
+    with_later_lines(rng, first, bottom - start, left)
 }
 
 /// Lines of an RF on a page of its own.
@@ -331,12 +331,12 @@ fn body_lines(rng: &mut Rng, draft: &Draft, kind: u16, left: usize) -> Vec<Row> 
         1..=2 => rng.number(top, low),
         _ => rng.number(top, low.min(top + 6)),
     };
-    match rng.below(10) {
-        0..=5 => {
+    match rng.below(4) {
+        0..=1 => {
             let first = Row::new(LINE_RELATIVE, step(rng));
             with_later_lines(rng, first, low - top, left)
         }
-        6..=7 => with_later_lines(rng, Row::new(LINE_ABSOLUTE, start), low - start, left),
+        2 => with_later_lines(rng, Row::new(LINE_ABSOLUTE, start), low - start, left),
         _ => with_later_lines(rng, Row::new(LINE_NEXT_PAGE, start), low - start, left),
     }
 }
@@ -361,6 +361,24 @@ fn with_later_lines(rng: &mut Rng, first: Row, room: u16, left: usize) -> Vec<Ro
         lines.push(Row::new(LINE_RELATIVE, 1 + extra as u16));
     }
     lines
+}
+
+/// Makes the page's body 100 lines longer and one later line of a body group come `step` lines below
+/// the one before; false where there is no such line or no such page.
+pub fn stretch(rng: &mut Rng, draft: &mut Draft, step: u16) -> bool {
+    let long = |g: &usize| draft.groups[*g].is_body() && draft.groups[*g].lines.len() > 1;
+    let longs: Vec<usize> = (0..draft.groups.len()).filter(long).collect();
+    let Some(g) = rng.maybe(&longs).filter(|_| draft.page.p <= 899) else { return false };
+    let page = &mut draft.page;
+    (page.ld, page.ft, page.p) = (page.ld + 100, page.ft + 100, page.p + 100);
+    for group in draft.groups.iter_mut().filter(|group| matches!(group.kind, PF | RF)) {
+        if group.first_kind() == Some(LINE_ABSOLUTE) {
+            group.lines[0].integer += 100;
+        }
+    }
+    let lines = &mut draft.groups[g].lines;
+    lines[1].integer = step;
+    true
 }
 
 // ---- counters

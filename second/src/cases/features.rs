@@ -1,0 +1,331 @@
+//! What descriptions and calls have that should be met: the names, and who has them.
+
+use super::draft::{Block, Draft, Section, LIMITS, SECTIONS};
+use super::sequence::{Call, Step, MANNERS};
+use super::states::DAMAGES;
+use super::{broken, rows, sample, walk};
+use crate::description::{
+    ADD_COUNTER, ADD_FIELD, CF, CH, DE, FIELD, FINAL, LINE_ABSOLUTE, LINE_NEXT_PAGE, LINE_RELATIVE, NUMBER,
+    PF, PH, RF, RH, SUM, TEXT,
+};
+use crate::report::Answer;
+use crate::state::STARTED;
+
+const TYPES: [&str; 7] = ["RH", "PH", "CH", "DE", "CF", "PF", "RF"];
+const FIRST_LINES: [&str; 3] = ["absolute", "next page", "relative"];
+const NEXT_GROUPS: [&str; 4] = ["none", "absolute", "relative", "next page"];
+const SOURCES: [&str; 5] = ["literal", "field", "page counter", "line counter", "sum"];
+const LANDINGS: [&str; 4] = ["same page", "next page", "next page, saved line", "two pages"];
+const SECTION_NAMES: [&str; 8] =
+    ["fields", "controls", "groups", "lines", "items", "counters", "addends", "literals"];
+
+/// Features that stand alone.
+const SINGLE: [&str; 45] = [
+    "text of 64",
+    "number of 18",
+    "FINAL",
+    "text control",
+    "number control",
+    "sixteen lines",
+    "first integer of 999",
+    "step of 99",
+    "next group of 999",
+    "decimals",
+    "four decimals",
+    "decimals one below the width",
+    "sum with decimals",
+    "indicate",
+    "reset level above the group's",
+    "reset level FINAL",
+    "eight addends",
+    "mask of some details",
+    "crossfoot",
+    "roll-up",
+    "roll-up over a level",
+    "roll-up of a later counter",
+    "PH below RH, absolute",
+    "PH below RH, relative",
+    "RF below PF, absolute",
+    "RF below PF, relative",
+    "odd number of literals",
+    "W 1",
+    "W 132",
+    "R 1",
+    "R 256",
+    "P 1",
+    "P 999",
+    "H, FD, LD, FT and P the same",
+    "step that never fits",
+    "as long as its part of the page",
+    "first GENERATE",
+    "GENERATE without a break",
+    "GENERATE on a page not seen",
+    "zeros of both signs",
+    "saved line set",
+    "call without lines",
+    "no body group with lines due",
+    "TERMINATE when started",
+    "TERMINATE with RF on its own page",
+];
+
+/// Names of all that should be met.
+pub fn wanted() -> Vec<String> {
+    let mut names: Vec<String> = SINGLE.map(String::from).to_vec();
+    names.extend(broken::names().iter().chain(&sample::NAMES).map(|name| format!("description: {name}")));
+    names.extend(MANNERS.iter().chain(&DAMAGES).map(|name| format!("step: {name}")));
+    names.extend((1..=8).map(|rule| format!("refusal 1 with {rule}")));
+    names.extend((0..=10).chain([31]).map(|field| format!("refusal 6 with {field}")));
+    names.extend((0..8).map(|level| format!("break at level {level}")));
+    names.extend(SECTION_NAMES.map(|section| format!("full section: {section}")));
+    names.extend(SECTION_NAMES.iter().filter(|&&it| it != "groups").map(|it| format!("empty section: {it}")));
+    names.extend((1..=8).map(|details| format!("details: {details}")));
+    names.extend((0..=8).map(|controls| format!("controls: {controls}")));
+    names.extend((0..7).flat_map(wanted_of));
+    names
+}
+
+/// What should be met of a group type.
+fn wanted_of(kind: u16) -> Vec<String> {
+    let mut names = vec![lineless_name(kind)];
+    let first_kinds: &[u16] = match kind {
+        PF => &[LINE_ABSOLUTE],
+        RH | PH => &[LINE_ABSOLUTE, LINE_RELATIVE],
+        _ => &[LINE_ABSOLUTE, LINE_NEXT_PAGE, LINE_RELATIVE],
+    };
+    names.extend(first_kinds.iter().map(|&first| first_name(kind, first)));
+    let sources = if kind == CF { 0..5 } else { 0..4 };
+    names.extend(sources.map(|source| source_name(kind, source)));
+    if matches!(kind, CH | DE | CF) {
+        names.extend((0..4).map(|next| next_name(kind, next)));
+        for landing in LANDINGS {
+            names.extend((0..3).map(|first| landing_name(kind, first, landing)));
+        }
+    }
+    names
+}
+
+fn type_name(kind: u16) -> &'static str {
+    TYPES[kind as usize]
+}
+
+fn lineless_name(kind: u16) -> String {
+    format!("{} without lines", type_name(kind))
+}
+
+fn first_name(kind: u16, first: u16) -> String {
+    format!("{} first line {}", type_name(kind), FIRST_LINES[first as usize])
+}
+
+fn source_name(kind: u16, source: u16) -> String {
+    format!("{} item {}", type_name(kind), SOURCES[source as usize])
+}
+
+fn next_name(kind: u16, next: u16) -> String {
+    format!("{} next group {}", type_name(kind), NEXT_GROUPS[next as usize])
+}
+
+fn landing_name(kind: u16, first: u16, landing: &str) -> String {
+    format!("{} {} lands: {landing}", type_name(kind), FIRST_LINES[first as usize])
+}
+
+/// The names whose condition holds.
+fn holding(list: &[(bool, &str)]) -> Vec<String> {
+    list.iter().filter(|(holds, _)| *holds).map(|(_, name)| name.to_string()).collect()
+}
+
+// ---- descriptions
+
+/// Features of an accepted description; one that is there twice is named twice.
+pub fn of_description(draft: &Draft) -> Vec<String> {
+    let mut names = section_features(draft);
+    names.extend(page_features(draft));
+    names.extend(field_features(draft));
+    names.extend(draft.groups.iter().flat_map(|group| group_features(draft, group)));
+    names.extend(heading_features(draft));
+    names.extend(item_features(draft));
+    names.extend((0..draft.counters.len()).flat_map(|c| counter_features(draft, c)));
+    names
+}
+
+fn section_features(draft: &Draft) -> Vec<String> {
+    let mut names = holding(&[(draft.literals.len() % 2 == 1, "odd number of literals")]);
+    for section in SECTIONS {
+        // Groups cannot pass 28: four, two a level, eight details.
+        let full = if section == Section::Groups { 28 } else { LIMITS[section as usize] };
+        let name = SECTION_NAMES[section as usize];
+        match draft.entry_count(section) {
+            0 => names.push(format!("empty section: {name}")),
+            count if count == full => names.push(format!("full section: {name}")),
+            _ => {}
+        }
+    }
+    names
+}
+
+fn page_features(draft: &Draft) -> Vec<String> {
+    let page = &draft.page;
+    holding(&[
+        (draft.width == 1, "W 1"),
+        (draft.width == 132, "W 132"),
+        (draft.record == 1, "R 1"),
+        (draft.record == 256, "R 256"),
+        (page.p == 1, "P 1"),
+        (page.p == 999, "P 999"),
+        (page.h == page.p, "H, FD, LD, FT and P the same"),
+    ])
+}
+
+fn field_features(draft: &Draft) -> Vec<String> {
+    let fields = draft.control_fields();
+    let any = |kind: u16| fields.iter().any(|&f| draft.fields[f as usize].kind == kind);
+    let any_of = |kind: u16, width: u16| draft.fields.iter().any(|f| f.kind == kind && f.width == width);
+    let mut names = holding(&[
+        (any_of(TEXT, 64), "text of 64"),
+        (any_of(NUMBER, 18), "number of 18"),
+        (draft.controls.first() == Some(&FINAL), "FINAL"),
+        (any(TEXT), "text control"),
+        (any(NUMBER), "number control"),
+    ]);
+    names.push(format!("details: {}", draft.details()));
+    names.push(format!("controls: {}", draft.controls.len()));
+    names
+}
+
+fn group_features(draft: &Draft, group: &Block) -> Vec<String> {
+    let kind = group.kind;
+    let mut names = match group.first_kind() {
+        None => vec![lineless_name(kind)],
+        Some(first) => vec![first_name(kind, first)],
+    };
+    if group.is_body() {
+        names.push(next_name(kind, group.next));
+    }
+    if group.is_body() && !group.lines.is_empty() {
+        let (top, low) = draft.window(kind);
+        names.extend(holding(&[
+            (group.lines.len() == 16, "sixteen lines"),
+            (group.lines[0].integer == 999, "first integer of 999"),
+            (group.lines[1..].iter().any(|line| line.integer == 99), "step of 99"),
+            (group.integer == 999, "next group of 999"),
+            (group.lines[0].integer > low, "step that never fits"),
+            (group.span() > 0 && group.span() == low - top, "as long as its part of the page"),
+        ]));
+    }
+    names
+}
+
+/// PH below an RH with lines, RF below a PF with lines.
+fn heading_features(draft: &Draft) -> Vec<String> {
+    let below = |upper: u16, lower: u16, first: u16| {
+        let lower = draft.printed(lower).and_then(Block::first_kind);
+        draft.printed(upper).is_some() && lower == Some(first)
+    };
+    holding(&[
+        (below(RH, PH, LINE_ABSOLUTE), "PH below RH, absolute"),
+        (below(RH, PH, LINE_RELATIVE), "PH below RH, relative"),
+        (below(PF, RF, LINE_ABSOLUTE), "RF below PF, absolute"),
+        (below(PF, RF, LINE_RELATIVE), "RF below PF, relative"),
+    ])
+}
+
+fn item_features(draft: &Draft) -> Vec<String> {
+    let mut names = Vec::new();
+    for place in draft.item_places() {
+        let item = place.item;
+        names.push(source_name(draft.groups[place.group].kind, item.source));
+        names.extend(holding(&[
+            (item.decimals > 0 && item.source == FIELD, "decimals"),
+            (item.decimals == 4, "four decimals"),
+            (item.decimals > 0 && item.decimals + 1 == item.width, "decimals one below the width"),
+            (item.decimals > 0 && item.source == SUM, "sum with decimals"),
+            (item.indicate == 1, "indicate"),
+        ]));
+    }
+    names
+}
+
+fn counter_features(draft: &Draft, c: usize) -> Vec<String> {
+    let counter = &draft.counters[c];
+    let level = draft.counter_level(c);
+    let all = (1 << draft.details()) - 1;
+    let mut names = holding(&[
+        (counter.reset < level, "reset level above the group's"),
+        (counter.addends.len() == 8, "eight addends"),
+        (draft.controls[counter.reset as usize] == FINAL, "reset level FINAL"),
+    ]);
+    for addend in &counter.addends {
+        names.extend(holding(&[(addend.kind == ADD_FIELD && addend.mask != all, "mask of some details")]));
+        if addend.kind == ADD_COUNTER {
+            let other = addend.index as usize;
+            let junior = draft.counter_level(other);
+            names.extend(holding(&[
+                (junior == level, "crossfoot"),
+                (junior == level + 1, "roll-up"),
+                (junior > level + 1, "roll-up over a level"),
+                (junior > level && other > c, "roll-up of a later counter"),
+            ]));
+        }
+    }
+    names
+}
+
+// ---- calls
+
+/// Features of an accepted call.
+pub fn of_call(draft: &Draft, step: &Step, answer: &Answer) -> Vec<String> {
+    let started = step.state.phase == STARTED;
+    let mut names = match &step.call {
+        Call::Initiate => return Vec::new(),
+        Call::Generate { .. } if started => holding(&[(true, "first GENERATE")]),
+        Call::Generate { record, .. } => row_features(draft, step, record),
+        Call::Terminate => holding(&[
+            (started, "TERMINATE when started"),
+            (!started && walk::own_page(draft), "TERMINATE with RF on its own page"),
+        ]),
+    };
+    let saved = answer.state.saved;
+    names.extend(holding(&[
+        (answer.count == 0, "call without lines"),
+        (saved != 0 && saved != step.state.saved, "saved line set"),
+    ]));
+    names.extend(landing(draft, step, answer));
+    names
+}
+
+/// Features of a later row.
+fn row_features(draft: &Draft, step: &Step, record: &[u8]) -> Vec<String> {
+    let kept = &step.state.kept[..record.len()];
+    let level = rows::break_level(draft, kept, record);
+    let mut names = holding(&[
+        (level.is_none(), "GENERATE without a break"),
+        (level.is_none() && zeros_differ(draft, kept, record), "zeros of both signs"),
+        (step.state.seen == 0, "GENERATE on a page not seen"),
+    ]);
+    names.extend(level.map(|level| format!("break at level {level}")));
+    names
+}
+
+/// A control whose bytes differ; where there is no break, only a zero's sign can.
+fn zeros_differ(draft: &Draft, kept: &[u8], record: &[u8]) -> bool {
+    draft.control_fields().iter().any(|&f| {
+        let field = draft.fields[f as usize];
+        rows::bytes_of(field, kept) != rows::bytes_of(field, record)
+    })
+}
+
+/// Where the only body group with lines landed, if just one was due.
+fn landing(draft: &Draft, step: &Step, answer: &Answer) -> Option<String> {
+    let due = walk::due(draft, step);
+    let [group] = due.as_slice() else {
+        return due.is_empty().then(|| "no body group with lines due".to_string());
+    };
+    let own_page = step.call == Call::Terminate && walk::own_page(draft);
+    let turned = answer.state.page.saturating_sub(step.state.page + u32::from(own_page));
+    let landing = match turned {
+        0 => LANDINGS[0],
+        1 if step.state.saved == 0 => LANDINGS[1],
+        1 => LANDINGS[2],
+        _ => LANDINGS[3],
+    };
+    Some(landing_name(group.kind, group.first_kind()?, landing))
+}

@@ -1,0 +1,238 @@
+//! The command line: what it prints, where, and its exit code; bad input above all.
+
+mod common;
+
+use std::path::{Path, PathBuf};
+use std::process::Command;
+
+use common::{sheet_bytes, whole_run, WHOLE_RUN_ROWS, WHOLE_RUN_SHEET};
+use second::builder::Builder;
+use second::description::*;
+
+/// A directory of its own for a test.
+fn directory(test: &str) -> PathBuf {
+    let path = Path::new(env!("CARGO_TARGET_TMPDIR")).join(test);
+    let _ = std::fs::remove_dir_all(&path);
+    std::fs::create_dir_all(&path).unwrap();
+    path
+}
+
+/// Exit code, standard output and standard error of a run in a directory.
+fn run(directory: &Path, args: &[&str]) -> (i32, Vec<u8>, String) {
+    let output =
+        Command::new(env!("CARGO_BIN_EXE_second")).args(args).current_dir(directory).output().unwrap();
+    (output.status.code().unwrap(), output.stdout, String::from_utf8(output.stderr).unwrap())
+}
+
+/// The run fails with this code, prints nothing, and says one line that holds these words.
+fn fails(directory: &Path, args: &[&str], code: i32, words: &str) {
+    fails_after(directory, args, code, b"", words);
+}
+
+/// The same, after some output.
+fn fails_after(directory: &Path, args: &[&str], code: i32, printed: &[u8], words: &str) {
+    let (exit, out, error) = run(directory, args);
+    assert_eq!(exit, code, "{args:?}: {error}");
+    assert_eq!(String::from_utf8_lossy(&out), String::from_utf8_lossy(printed), "{args:?}");
+    assert_eq!(error.lines().count(), 1, "{args:?}: {error}");
+    assert!(error.ends_with('\n') && error.contains(words), "{args:?}: {error}");
+}
+
+/// A directory with the whole run's files `d` and `r`, an empty file `empty`, and no file `none`.
+fn whole_run_directory(test: &str) -> PathBuf {
+    let path = directory(test);
+    std::fs::write(path.join("d"), whole_run().bytes()).unwrap();
+    std::fs::write(path.join("r"), WHOLE_RUN_ROWS.concat()).unwrap();
+    std::fs::write(path.join("empty"), b"").unwrap();
+    path
+}
+
+#[test]
+fn help_is_given() {
+    let path = directory("help");
+    for args in [
+        &["--help"][..],
+        &["-h"],
+        &["help"],
+        &["check", "--help"],
+        &["print", "--help"],
+        &["build", "--help"],
+    ] {
+        let (code, out, error) = run(&path, args);
+        assert_eq!((code, error.as_str()), (0, ""), "{args:?}");
+        assert!(String::from_utf8(out).unwrap().contains("usage: second"), "{args:?}");
+    }
+}
+
+#[test]
+fn bad_usage_is_one_line_and_code_2() {
+    let path = whole_run_directory("usage");
+    for args in [
+        &[][..],
+        &["what"],
+        &["check"],
+        &["check", "d", "r"],
+        &["print"],
+        &["print", "d"],
+        &["print", "d", "r", "x"],
+        &["print", "d", "r", "-o"],
+        &["print", "d", "-o", "x"],
+        &["print", "d", "r", "-o", "x", "y"],
+        &["build"],
+        &["build", "d"],
+        &["build", "d", "x", "y"],
+    ] {
+        fails(&path, args, 2, "usage: second");
+    }
+    assert!(!path.join("x").exists());
+}
+
+#[test]
+fn check_says_accepted_or_the_rule() {
+    let path = whole_run_directory("check");
+    assert_eq!(run(&path, &["check", "d"]), (0, b"accepted\n".to_vec(), String::new()));
+    fails(&path, &["check", "empty"], 1, "refused 1, rule 1");
+    fails(&path, &["check", "r"], 1, "refused 1, rule 1");
+    fails(&path, &["check", "none"], 1, "second: none: ");
+    fails(&path, &["check", "."], 1, "second: .: ");
+    let mut b = whole_run();
+    b.tables.lines[1].integer = 0;
+    std::fs::write(path.join("broken"), b.bytes()).unwrap();
+    let (code, out, error) = run(&path, &["check", "broken"]);
+    assert_eq!((code, out.len(), error.as_str()), (1, 0, "refused 1, rule 6\n"));
+}
+
+#[test]
+fn print_gives_the_sheet() {
+    let path = whole_run_directory("print");
+    let sheet = sheet_bytes(WHOLE_RUN_SHEET);
+    assert_eq!(run(&path, &["print", "d", "r"]), (0, sheet.clone(), String::new()));
+    for args in [["print", "d", "r", "-o", "out"], ["print", "-o", "out", "d", "r"]] {
+        assert_eq!(run(&path, &args), (0, Vec::new(), String::new()));
+        assert_eq!(std::fs::read(path.join("out")).unwrap(), sheet);
+        std::fs::remove_file(path.join("out")).unwrap();
+    }
+}
+
+#[test]
+fn print_without_its_files_says_so() {
+    let path = whole_run_directory("files");
+    fails(&path, &["print", "none", "r"], 1, "second: none: ");
+    fails(&path, &["print", "d", "none"], 1, "second: none: ");
+    fails(&path, &["print", ".", "r"], 1, "second: .: ");
+    fails(&path, &["print", "d", "."], 1, "second: .: ");
+    fails(&path, &["print", "empty", "r"], 1, "INITIATE refused: refusal 1, extra number 1");
+    fails(&path, &["print", "r", "r"], 1, "INITIATE refused: refusal 1, extra number 1");
+    fails(&path, &["print", "d", "empty"], 1, "second: empty: the file is empty");
+    fails(&path, &["print", "d", "r", "-o", "no/out"], 1, "second: no/out: ");
+}
+
+#[test]
+fn what_was_printed_before_a_refused_row_stands() {
+    let path = whole_run_directory("rows");
+    let sheet = sheet_bytes(WHOLE_RUN_SHEET);
+    let rows = WHOLE_RUN_ROWS.concat();
+    let refused = |name: &str, rows: &[u8], printed: usize, words: &str| {
+        std::fs::write(path.join(name), rows).unwrap();
+        fails_after(&path, &["print", "d", name], 1, &sheet[..printed], words);
+    };
+    // Two lines come of row 1, one of row 2, two of row 3, two of row 4.
+    refused("short1", &rows[..5], 0, "GENERATE of row 1 refused: refusal 5, extra number 0");
+    refused("short3", &rows[..13], 66, "GENERATE of row 3 refused: refusal 5, extra number 0");
+    refused(
+        "long",
+        &[&rows[..], b"\n"].concat(),
+        154,
+        "GENERATE of row 5 refused: refusal 5, extra number 0",
+    );
+    let mut wrong = rows.clone();
+    wrong[9] = b'x';
+    refused("wrong", &wrong, 44, "GENERATE of row 2 refused: refusal 6, extra number 1");
+    // The same with -o.
+    let (code, out, error) = run(&path, &["print", "d", "wrong", "-o", "out"]);
+    assert_eq!((code, out.len(), error.lines().count()), (1, 0, 1));
+    assert_eq!(std::fs::read(path.join("out")).unwrap(), sheet[..44]);
+}
+
+/// One number field of 18 bytes, added to a sum and to one that adds that sum too.
+fn large_sums() -> Builder {
+    let mut b = Builder::new(10, 1, 3, 6, 8, 12, 18);
+    let value = b.number(0, 18);
+    b.control(FINAL);
+    b.group(DE, 0);
+    let cf = b.group(CF, 0);
+    b.counter(cf, 0);
+    b.add_field(value, 1);
+    b.counter(cf, 0);
+    b.add_field(value, 1);
+    b.add_counter(0);
+    b
+}
+
+#[test]
+fn a_refused_terminate_is_told_apart() {
+    let path = directory("terminate");
+    std::fs::write(path.join("d"), large_sums().bytes()).unwrap();
+    std::fs::write(path.join("r"), b"+99999999999999999".repeat(6)).unwrap();
+    fails(&path, &["print", "d", "r"], 1, "TERMINATE after row 6 refused: refusal 7, extra number 0");
+    std::fs::write(path.join("r"), b"+99999999999999999".repeat(11)).unwrap();
+    fails(&path, &["print", "d", "r"], 1, "GENERATE of row 11 refused: refusal 7, extra number 0");
+}
+
+#[test]
+fn a_call_with_more_lines_than_the_first_output_prints() {
+    // Every heading and footing turns the page, with 16 lines of PF and of PH.
+    let mut b = Builder::new(60, 1, 20, 30, 30, 132, 8);
+    b.group(PH, 0);
+    b.line(LINE_ABSOLUTE, 1);
+    for _ in 1..16 {
+        b.line(LINE_RELATIVE, 1);
+    }
+    b.group(DE, 0);
+    for level in 0..8 {
+        let field = b.text(level, 1);
+        b.control(field);
+        for kind in [CH, CF] {
+            b.group(kind, level);
+            b.line(LINE_NEXT_PAGE, 20);
+        }
+    }
+    b.group(PF, 0);
+    b.line(LINE_ABSOLUTE, 31);
+    for _ in 1..16 {
+        b.line(LINE_RELATIVE, 1);
+    }
+    let path = directory("large");
+    std::fs::write(path.join("d"), b.bytes()).unwrap();
+    std::fs::write(path.join("r"), b"aaaaaaaabaaaaaaa").unwrap();
+    let (code, out, error) = run(&path, &["print", "d", "r"]);
+    assert_eq!((code, error.as_str()), (0, ""));
+    // 8 + 16 + 8 groups of one line, 31 page changes, the first PH and the last PF.
+    assert_eq!(out.len(), (32 + 32 * 32) * 142);
+}
+
+#[test]
+fn build_writes_a_description_or_nothing() {
+    let path = directory("build");
+    let good = "page 10 heading 1 first 3 last 6 footing 8\nwidth 1\nrecord 1\ngroup DE\n";
+    let files: [(&str, &[u8]); 5] = [
+        ("good", good.as_bytes()),
+        ("word", b"page 10\n"),
+        ("rule", b"width 0\n"),
+        ("bytes", b"width \xff\n"),
+        ("empty", b""),
+    ];
+    for (name, text) in files {
+        std::fs::write(path.join(name), text).unwrap();
+    }
+    assert_eq!(run(&path, &["build", "good", "out"]), (0, Vec::new(), String::new()));
+    assert_eq!(run(&path, &["check", "out"]), (0, b"accepted\n".to_vec(), String::new()));
+    std::fs::remove_file(path.join("out")).unwrap();
+    fails(&path, &["build", "word", "out"], 1, "second: word: line 1: not understood: page 10");
+    fails(&path, &["build", "rule", "out"], 1, "second: rule: refused 1, rule 2");
+    fails(&path, &["build", "bytes", "out"], 1, "second: bytes: ");
+    fails(&path, &["build", "empty", "out"], 1, "second: empty: ");
+    fails(&path, &["build", "none", "out"], 1, "second: none: ");
+    fails(&path, &["build", "good", "no/out"], 1, "second: no/out: ");
+    assert!(!path.join("out").exists());
+}

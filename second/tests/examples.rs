@@ -1,0 +1,75 @@
+//! The files in examples/: sources build to the descriptions, and the sheets come out byte for byte.
+
+mod common;
+
+use std::path::PathBuf;
+use std::process::Command;
+
+use common::{sheet_bytes, whole_run, Run, WHOLE_RUN_ROWS, WHOLE_RUN_SHEET};
+use second::description::check;
+use second::source;
+
+fn example(name: &str) -> PathBuf {
+    PathBuf::from(concat!(env!("CARGO_MANIFEST_DIR"), "/../examples")).join(name)
+}
+
+fn bytes(name: &str) -> Vec<u8> {
+    std::fs::read(example(name)).unwrap_or_else(|error| panic!("{name}: {error}"))
+}
+
+const EXAMPLES: [&str; 2] = ["whole_run", "day_sheet"];
+
+#[test]
+fn sources_build_to_the_descriptions() {
+    for name in EXAMPLES {
+        let text = String::from_utf8(bytes(&format!("{name}.txt"))).unwrap();
+        assert_eq!(source::build(&text).unwrap().bytes(), bytes(&format!("{name}.desc")), "{name}");
+    }
+}
+
+#[test]
+fn sheets_come_out_by_the_calls() {
+    for name in EXAMPLES {
+        let desc = bytes(&format!("{name}.desc"));
+        let length = usize::from(check(&desc).unwrap().r);
+        let mut run = Run::begin(&desc);
+        for row in bytes(&format!("{name}.rows")).chunks(length) {
+            run.generate(0, row);
+        }
+        run.terminate();
+        assert!(run.sheet == bytes(&format!("{name}.sheet")), "{name}: the sheets differ");
+    }
+}
+
+#[test]
+fn sheets_come_out_by_the_command() {
+    for name in EXAMPLES {
+        let output = Command::new(env!("CARGO_BIN_EXE_second"))
+            .arg("print")
+            .args([example(&format!("{name}.desc")), example(&format!("{name}.rows"))])
+            .output()
+            .unwrap();
+        assert!(output.status.success(), "{name}");
+        assert!(output.stdout == bytes(&format!("{name}.sheet")), "{name}: the sheets differ");
+    }
+}
+
+#[test]
+fn the_whole_run_is_document_01s() {
+    assert_eq!(bytes("whole_run.desc"), whole_run().bytes());
+    assert_eq!(bytes("whole_run.rows"), WHOLE_RUN_ROWS.concat());
+    assert_eq!(bytes("whole_run.sheet"), sheet_bytes(WHOLE_RUN_SHEET));
+}
+
+#[test]
+fn the_day_sheets_totals_are_those_of_its_rows() {
+    let rows = bytes("day_sheet.rows");
+    let number = |bytes: &[u8]| std::str::from_utf8(bytes).unwrap().parse::<i64>().unwrap();
+    let amount: i64 = rows.chunks(67).map(|row| number(&row[51..60])).sum();
+    let commission: i64 = rows.chunks(67).map(|row| number(&row[60..67])).sum();
+    let sheet = String::from_utf8(bytes("day_sheet.sheet")).unwrap();
+    let total = sheet.lines().find(|line| line.contains("DAY TOTAL")).unwrap();
+    let money = |hundredths: i64| format!("{}.{:02}", hundredths / 100, hundredths % 100);
+    let shown: Vec<&str> = total.split_whitespace().rev().take(2).collect();
+    assert_eq!(shown, [money(commission), money(amount)]);
+}
