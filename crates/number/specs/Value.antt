@@ -10,7 +10,7 @@ use lib.IntN.{ℤ, pos, negℤ, natAbs}
 abbrev pub limit : ℕ
 limit = 999999999999999999
 
--- '+' or '-'
+-- '+' or '-': the bytes that a number may start with
 abbrev pub isSign : ℕ → Bool
 isSign b = eqb b 43 || eqb b 45
 
@@ -18,6 +18,7 @@ isSign b = eqb b 43 || eqb b 45
 abbrev pub isDigit : ℕ → Bool
 isDigit b = leb 48 b && leb b 57
 
+-- digits and nothing else
 unfoldable pub allDigits : List ℕ → Bool
 allDigits [] = true
 allDigits (b ∷ bs) = isDigit b && allDigits bs

@@ -6,12 +6,14 @@ ghost use lib.ListN.{length, drop};
 ghost use Rattle.number.specs.Value.{isSign, isDigit, allDigits, isNumber, valueFrom, numberOf, Value};
 use crate::signed;
 
+// Whether b is '+' or '-'.
 fn is_sign(b: u8) -> bool
     ensures { λ r. ⌜ r ≡ isSign b ⌝ }
 {
     (b == b'+') | (b == b'-')
 }
 
+// Whether b is '0' to '9'.
 fn is_digit(b: u8) -> bool
     ensures { λ r. ⌜ r ≡ isDigit b ⌝ }
 {

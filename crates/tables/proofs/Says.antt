@@ -59,14 +59,14 @@ module _ (d : List ℕ) (kept : ruleD1 d ≡ true) where
       let c3 = counted 3 (omega arith) in let c4 = counted 4 (omega arith) in let c5 = counted 5 (omega arith) in
       let c6 = counted 6 (omega arith) in
       record {
-      s1 = omega arith;
-      s2 = omega arith;
-      s3 = omega arith;
-      s4 = omega arith;
-      s5 = omega arith;
-      s6 = omega arith;
-      s7 = omega arith;
-      whole = omega arith;
+        s1 = omega arith;
+        s2 = omega arith;
+        s3 = omega arith;
+        s4 = omega arith;
+        s5 = omega arith;
+        s6 = omega arith;
+        s7 = omega arith;
+        whole = omega arith;
       }
 
   number : (a b : ℕ) → a < start d 7 / 2 → start d 7 ≤ 8784 → 2 * a ≡ b → getD (table d) a 0 ≡ num d b

@@ -1,9 +1,10 @@
 -- The list of numbers of a description, and its entries. A number past the end counts as 0.
 use Prim.Native.Nat.{ℕ, _+_, _*_, _/_}
+use mathlib.Core.Path.{_≡_}
 use mathlib.Core.Bool.{cond}
 use mathlib.Core.List.{List}
 use lib.Dec.{ltb}
-use lib.ListN.{getD, take, drop}
+use lib.ListN.{getD, take, drop, replicate}
 use Rattle.counts.specs.Below.{listBelow}
 use Rattle.file.specs.Number.{num}
 use Rattle.file.specs.Trailer.{start, count}
@@ -16,6 +17,10 @@ slot d i = cond (ltb i (start d 7 / 2)) (num d (2 * i)) 0
 -- 4392 numbers are the most: 32 fields, 8 controls, 32 groups, 128 lines, 512 items, 32 counters, 128 addends
 unfoldable pub table : List ℕ → List ℕ
 table d = listBelow 4392 (slot d)
+
+-- a table that nothing is put into yet
+abbrev pub Zeros : List ℕ → Type 0
+Zeros t = t ≡ replicate 4392 0
 
 -- the literal bytes
 unfoldable pub literals : List ℕ → List ℕ

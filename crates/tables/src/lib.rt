@@ -5,7 +5,7 @@ ghost use lib.ListN.{getD};
 ghost use Rattle.file.specs.Number.{Reads};
 ghost use Rattle.file.specs.Trailer.{start, count, setting};
 ghost use Rattle.tables.specs.Head.{headOf};
-ghost use Rattle.tables.specs.Table.{table, numberOf, field, control, group, line, item, counter, addend};
+ghost use Rattle.tables.specs.Table.{Zeros, table, numberOf, field, control, group, line, item, counter, addend};
 
 // Section starts (in numbers of the table; fields start at 0), entry counts, and P, H, FD, LD, FT, W, R and the version.
 pub struct Head {
@@ -83,20 +83,19 @@ pub fn head_of(d: &[u8]) -> Head
     }
 }
 
-// The numbers of all sections before the literals; zeros behind them.
-pub fn unpack(d: &[u8]) -> [u16; 4392]
-    ensures { λ r. ⌜ r ≡ table (now (d .entry)) ⌝ }
+// The numbers of all sections before the literals, put into a table of zeros.
+pub fn unpack(d: &[u8], t: &mut [u16; 4392])
+    requires { ⌜ Zeros (now t) ⌝ }
+    ensures { λ _. ⌜ now (t .exit) ≡ table (now (d .entry)) ⌝ }
 {
     let whole = file::start_of(d, 7) / 2;
     let n = counts::least(whole, 4392);
-    let mut t = [0u16; 4392];
     let mut i = 0;
     while i < n {
         let x = file::num_at(d, 2 * i);
         t[i] = x as u16;
         i += 1;
     }
-    t
 }
 
 pub fn wide(x: u16) -> usize

@@ -1,7 +1,7 @@
--- `tables::unpack` meets its contract. The invariant: the numbers passed stand in the list, and zeros behind them.
+-- `tables::unpack` meets its contract. The invariant: the numbers passed stand in the table, and zeros behind them.
 -- Assumes nothing.
 use Prim.Native.Nat.{ℕ, _≤_, _<_, _-_}
-use mathlib.Core.Path.{_≡_, refl, sym, _∙_}
+use mathlib.Core.Path.{_≡_, sym, ap, _∙_}
 use native.Mathlib.Omega.{arith}
 use borrow.Author.Needs.{needs}
 use borrow.Author.Count.{below-none}
@@ -15,14 +15,16 @@ use Rattle.tables.proofs.unpack.Statement.{statement}
 use Rattle.tables.proofs.unpack.Tie as tie
 
 abbrev Inv-loop : tie.InvT-loop
-Inv-loop d whole n t₀ i₀ t i =
+Inv-loop d t₀ whole n i₀ t i =
     (i ≤ n) × ((length t ≡ 4392) × (((k : ℕ) → k < i → getD t k 0 ≡ slot d k) × ((k : ℕ) → i ≤ k → getD t k 0 ≡ 0)))
 
 abbrev μ-loop : tie.MeasureT-loop
-μ-loop d whole n t₀ i₀ t i = n - i
+μ-loop d t₀ whole n i₀ t i = n - i
 
 loop-holds : tie.Need-loop-holds Inv-loop μ-loop
-loop-holds c = (search needs, (refl, (below-none _, λ k l. zeros 4392 k)))
+loop-holds c =
+    let z = c .before .before .before .pre in
+    (search needs, (ap length z ∙ length-replicate {A = ℕ} 4392 0, (below-none _, λ k l. rw z (zeros 4392 k))))
 
 loop-again : tie.Need-loop-again Inv-loop μ-loop
 loop-again c =

@@ -1,0 +1,104 @@
+-- An accepted description keeps every rule, and so has every fact.
+-- Assumes nothing.
+use Prim.Native.Nat.{ℕ, _+_, _≤_, _<_}
+use mathlib.Core.Path.{_≡_, refl, sym, _∙_}
+use mathlib.Core.Bool.{Bool, true, false, _&&_}
+use mathlib.Core.List.{List}
+use native.Mathlib.Omega.{arith}
+use borrow.Author.Tests.{leb-true}
+use Rattle.counts.proofs.Laws.{and-l, and-r}
+use Rattle.file.specs.Sections.{ruleD1}
+use Rattle.tables.specs.declared.Head.{Head}
+use Rattle.tables.specs.Head.{headOf}
+use Rattle.tables.specs.Table.{table, literals}
+use Rattle.tables.proofs.Says.{counted}
+use Rattle.fields.specs.Page.{ruleD2}
+use Rattle.fields.specs.Fields.{ruleD3}
+use Rattle.fields.specs.Controls.{ruleD4}
+use Rattle.groups.specs.Groups.{ruleD5}
+use Rattle.fits.specs.Fits.{ruleD6}
+use Rattle.items.specs.Items.{ruleD7}
+use Rattle.counters.specs.Counters.{ruleD8}
+use Rattle.description.specs.declared.Checked.{Checked}
+use Rattle.description.specs.declared.Checked.the-variants.{Accepted, Broken}
+use Rattle.description.specs.Check.{after, from3, from4, from5, from6, from7, from8, judged, checked}
+use Rattle.accepted.specs.Accepted as facts
+use Rattle.accepted.proofs.Index.{details-few}
+use Rattle.accepted.proofs.Page.{small, page-fits}
+use Rattle.accepted.proofs.Entries.{fields-in, controls-in, counters-in, items-in}
+
+kept-rule : (k : ℕ) (b : Bool) (rest : Checked) → after k b rest ≡ Accepted → b ≡ true
+kept-rule k true rest e = refl
+kept-rule k false rest e = let z : _≡_ {A = ℕ} 0 1 = cc in absurd (omega arith)
+
+kept-rest : (k : ℕ) (b : Bool) (rest : Checked) → after k b rest ≡ Accepted → rest ≡ Accepted
+kept-rest k true rest e = e
+kept-rest k false rest e = let z : _≡_ {A = ℕ} 0 1 = cc in absurd (omega arith)
+
+-- the rules that the tables keep
+pub record Kept (h : Head) (t lits : List ℕ) : Type 0 where
+  pub d2 : ruleD2 h ≡ true
+  pub d3 : ruleD3 h t ≡ true
+  pub d4 : ruleD4 h t ≡ true
+  pub d5 : ruleD5 h t ≡ true
+  pub d6 : ruleD6 h t ≡ true
+  pub d7 : ruleD7 h t lits ≡ true
+  pub d8 : ruleD8 h t ≡ true
+
+pub judged-kept : (h : Head) (t lits : List ℕ) → judged h t lits ≡ Accepted → Kept h t lits
+unfolding judged from3 from4 from5 from6 from7 from8
+judged-kept h t lits e =
+    let e3 = kept-rest 2 (ruleD2 h) (from3 h t lits) e in
+    let e4 = kept-rest 3 (ruleD3 h t) (from4 h t lits) e3 in
+    let e5 = kept-rest 4 (ruleD4 h t) (from5 h t lits) e4 in
+    let e6 = kept-rest 5 (ruleD5 h t) (from6 h t lits) e5 in
+    let e7 = kept-rest 6 (ruleD6 h t) (from7 h t lits) e6 in
+    let e8 = kept-rest 7 (ruleD7 h t lits) (from8 h t) e7 in
+    record {
+      d2 = kept-rule 2 (ruleD2 h) (from3 h t lits) e;
+      d3 = kept-rule 3 (ruleD3 h t) (from4 h t lits) e3;
+      d4 = kept-rule 4 (ruleD4 h t) (from5 h t lits) e4;
+      d5 = kept-rule 5 (ruleD5 h t) (from6 h t lits) e5;
+      d6 = kept-rule 6 (ruleD6 h t) (from7 h t lits) e6;
+      d7 = kept-rule 7 (ruleD7 h t lits) (from8 h t) e7;
+      d8 = kept-rule 8 (ruleD8 h t) Accepted e8;
+    }
+
+pub checked-d1 : (d : List ℕ) → checked d ≡ Accepted → ruleD1 d ≡ true
+unfolding checked
+checked-d1 d e = kept-rule 1 (ruleD1 d) (judged (headOf d) (table d) (literals d)) e
+
+pub checked-judged : (d : List ℕ) → checked d ≡ Accepted → judged (headOf d) (table d) (literals d) ≡ Accepted
+unfolding checked
+checked-judged d e = kept-rest 1 (ruleD1 d) (judged (headOf d) (table d) (literals d)) e
+
+-- from the rules of the tables, with D1's limits
+pub rules-give : (h : Head) (t lits : List ℕ) → h .controls ≤ 8 → h .groups ≤ 32 → h .counters ≤ 32 → Kept h t lits → facts.Accepted h t lits
+unfolding ruleD2
+rules-give h t lits c g k r =
+    let e2 = r .d2 in
+    let w : h .width ≤ 132 = leb-true _ _ (search (and-l, and-r) depth 14) in
+    let n = details-few h t (r .d5) in
+    record {
+      controls8 = c;
+      groups32 = g;
+      width1 = leb-true _ _ (search (and-l, and-r) depth 14);
+      width132 = w;
+      record1 = leb-true _ _ (search (and-l, and-r) depth 14);
+      record256 = leb-true _ _ (search (and-l, and-r) depth 14);
+      details1 = n .0;
+      details8 = n .1;
+      fieldsIn = fields-in h t (r .d3);
+      controlsIn = controls-in h t (r .d4);
+      countersIn = counters-in h t k (r .d8);
+      itemsIn = items-in h t lits (r .d7) (record { width = w; counters = k });
+      small = small h t (r .d2) (r .d5) (r .d6);
+      pageFits = page-fits h t (r .d2) (r .d5) (r .d6);
+    }
+
+-- what CHECK's acceptance gives
+pub accepted : (d : List ℕ) → checked d ≡ Accepted → facts.Accepted (headOf d) (table d) (literals d)
+accepted d e =
+    let o = checked-d1 d e in
+    rules-give (headOf d) (table d) (literals d) (counted d o 1 (omega arith)) (counted d o 2 (omega arith)) (counted d o 5 (omega arith))
+    (judged-kept (headOf d) (table d) (literals d) (checked-judged d e))

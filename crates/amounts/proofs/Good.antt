@@ -1,0 +1,85 @@
+-- The sums of every call stay good: in range, 32 of them, and 0 beyond the counters.
+-- Assumes nothing.
+use Prim.Native.Nat.{ℕ, _≤_, _<_}
+use mathlib.Core.Path.{_≡_, refl, sym, _∙_}
+use mathlib.Core.Bool.{Bool, true, false, true≢false}
+use mathlib.Core.List.{List}
+use native.Mathlib.Omega.{arith}
+use lib.IntN.{ℤ, pos, _+ℤ_}
+use lib.ListN.{length, getD, set, length-set}
+use lib.Seq.{getD-set-other}
+use Rattle.counts.proofs.Laws.{by-cond}
+use Rattle.tables.specs.declared.Head.{Head}
+use Rattle.sums.specs.declared.Totals.{Totals}
+use Rattle.sums.specs.Subtotal.{subtotal}
+use Rattle.sums.specs.Sums.{inRange, sumsOk, sumAt, put, addAt}
+use Rattle.sums.proofs.Range.{sum-in, sums-set}
+use Rattle.sums.proofs.Kept.{subtotal-keeps}
+use Rattle.footing.proofs.Kept.{Closed}
+use Rattle.amounts.specs.Totals.{footings, settled, totalsFirst, totalsLater, totalsLast}
+use Rattle.amounts.proofs.Kept.{footings-keeps}
+
+-- sums of n counters
+pub record GoodSums (n : ℕ) (l : List ℤ) : Type 0 where
+  pub range : sumsOk l ≡ true
+  pub long : length l ≡ 32
+  pub beyond : (i : ℕ) → n ≤ i → getD l i (pos 0) ≡ pos 0
+
+-- totals of n counters; what footings show is in range too
+pub record GoodTotals (n : ℕ) (acc : Totals) : Type 0 where
+  pub sums : GoodSums n (acc .sums)
+  pub shown : sumsOk (acc .shown) ≡ true
+  pub long : length (acc .shown) ≡ 32
+
+good-set : (n : ℕ) (l : List ℤ) (k : ℕ) (z : ℤ) → k < n → inRange z ≡ true → GoodSums n l → GoodSums n (set l k z)
+good-set n l k z b r g =
+    record {
+      range = sums-set l k z r (g .range);
+      long = simp length-set (g .long);
+      beyond = λ i m. getD-set-other l k i z (pos 0) (λ e. omega arith) ∙ g .beyond i m;
+    }
+
+good-put : (n k : ℕ) (z : ℤ) (acc : Totals) → k < n → inRange z ≡ true → GoodTotals n acc → GoodTotals n (put k z acc)
+good-put n k z acc b r g = record { sums = good-set n (acc .sums) k z b r (g .sums); shown = g .shown; long = g .long }
+
+good-closed : (n : ℕ) → n ≤ 32 → Closed n (GoodTotals n)
+unfolding addAt
+good-closed n few =
+    record {
+      add = λ k x acc b g.
+          by-cond (GoodTotals n) (inRange (sumAt k acc +ℤ x)) (λ r. good-put n k (sumAt k acc +ℤ x) acc b r g) (λ r. record { sums = g .sums; shown = g .shown; long = g .long });
+      show = λ k acc b g.
+          record { sums = g .sums; shown = sums-set (acc .shown) k (sumAt k acc) (sum-in (acc .sums) k (omega arith) (g .sums .range)) (g .shown); long = simp length-set (g .long) };
+      zero = λ k acc b g. good-put n k (pos 0) acc b refl g;
+    }
+
+module _ (h : Head) (t : List ℕ) (few : h .counters ≤ 32) (old : List ℤ) (good : GoodSums (h .counters) old) where
+  back : (ok : Bool) → GoodTotals (h .counters) (record { ok = ok; sums = old; shown = old })
+  back ok = record { sums = good; shown = good .range; long = good .long }
+
+  settled-good : {r : Totals} → GoodTotals (h .counters) r → GoodTotals (h .counters) (settled old r)
+  unfolding settled
+  settled-good {r} g = by-cond (GoodTotals (h .counters)) (r .ok) (λ e. g) (λ e. back false)
+
+  added : (row : List ℕ) (d : ℕ) {acc : Totals} → GoodTotals (h .counters) acc → GoodTotals (h .counters) (subtotal h t row d acc)
+  added row d g = subtotal-keeps h t (GoodTotals (h .counters)) (good-closed (h .counters) few .add) row d g
+
+  footed : (b : ℕ) {acc : Totals} → GoodTotals (h .counters) acc → GoodTotals (h .counters) (footings h t b acc)
+  footed b g = footings-keeps h t (good-closed (h .counters) few) b g
+
+  pub first-good : (row : List ℕ) (d : ℕ) → GoodTotals (h .counters) (totalsFirst h t row d old)
+  unfolding totalsFirst
+  first-good row d = settled-good (search (added, back))
+
+  pub later-good : (row : List ℕ) (d b : ℕ) → GoodTotals (h .counters) (totalsLater h t row d b old)
+  unfolding totalsLater
+  later-good row d b = settled-good (search (added, footed, back))
+
+  pub last-good : GoodTotals (h .counters) (totalsLast h t old)
+  unfolding totalsLast
+  last-good = settled-good (search (footed, back))
+
+-- where an addition is refused, the old sums are back
+pub refused-sums : (old : List ℤ) (r : Totals) → settled old r .ok ≡ false → settled old r .sums ≡ old
+unfolding settled
+refused-sums old r = by-cond (λ (s : Totals). s .ok ≡ false → s .sums ≡ old) (r .ok) (λ o f. absurd (true≢false (sym o ∙ f))) (λ o f. refl)

@@ -1,0 +1,40 @@
+-- The totals of the calls: footings at a break, subtotals, and the old sums where one addition refuses.
+use Prim.Native.Nat.{ℕ, _+_, _-_}
+use mathlib.Core.Bool.{true, false, cond}
+use mathlib.Core.List.{List}
+use lib.Dec.{ltb}
+use lib.IntN.{ℤ}
+use Rattle.counts.specs.Below.{foldBelow}
+use Rattle.tables.specs.declared.Head.{Head}
+use Rattle.lookup.specs.Find.{theGroup}
+use Rattle.sums.specs.declared.Totals.{Totals}
+use Rattle.sums.specs.Subtotal.{subtotal}
+use Rattle.footing.specs.Footing.{footing}
+
+-- the footing of a level, where it has one (CF is type 4)
+unfoldable pub footingAt : Head → List ℕ → ℕ → ℕ → Totals → Totals
+footingAt h t b level acc = cond (ltb (theGroup h t 4 level) (h .groups)) (footing h t (theGroup h t 4 level) b acc) acc
+
+-- "On a break at level b: CFs from junior up to b"
+unfoldable pub footings : Head → List ℕ → ℕ → Totals → Totals
+footings h t b acc = foldBelow (h .controls - b) (λ i. footingAt h t b (h .controls - (i + 1))) acc
+
+-- the sums before a call
+abbrev pub fresh : List ℤ → Totals
+fresh old = record { ok = true; sums = old; shown = old }
+
+-- "One addition out of range refuses the call": the old sums go back
+unfoldable pub settled : List ℤ → Totals → Totals
+settled old r = cond (r .ok) r (record { ok = false; sums = old; shown = old })
+
+-- the first GENERATE: "all CH senior to junior; then subtotal"
+unfoldable pub totalsFirst : Head → List ℕ → List ℕ → ℕ → List ℤ → Totals
+totalsFirst h t row d old = settled old (subtotal h t row d (fresh old))
+
+-- a later one, with a break at level b or (b the number of controls) none: "CFs from junior up to b, then .. subtotal"
+unfoldable pub totalsLater : Head → List ℕ → List ℕ → ℕ → ℕ → List ℤ → Totals
+totalsLater h t row d b old = settled old (subtotal h t row d (footings h t b (fresh old)))
+
+-- TERMINATE "when running: break at level 0, all CFs"
+unfoldable pub totalsLast : Head → List ℕ → List ℤ → Totals
+totalsLast h t old = settled old (footings h t 0 (fresh old))

@@ -1,0 +1,8 @@
+-- The proof of demand 3; `Theorem` has the claim.
+pub mod Laws
+pub mod Bytes
+pub mod Step
+pub mod Calls
+pub mod Lists
+pub mod Supply
+pub mod Theorem

@@ -1,0 +1,97 @@
+-- One call against the book's entry.
+-- Assumes nothing but the laws in `Laws`, which `Demand` supplies.
+use Prim.Native.Nat.{ℕ, zero, suc, _+_, _*_, _≤_, _<_}
+use mathlib.Core.Path.{_≡_, refl, sym, ap, _∙_}
+use mathlib.Core.Bool.{Bool, true, false, cond}
+use mathlib.Core.List.{List, [], _∷_, _++_}
+use mathlib.Core.Logic.{_⊎_, inl, inr}
+use mathlib.Core.Option.{Option, none, some}
+use native.Mathlib.Omega.{arith}
+use borrow.Author.Tests.{ltb-true, ltb-false, eqb-true, eqb-false}
+use lib.Dec.{ltb, eqb}
+use lib.ListN.{length, take}
+use Rattle.counts.proofs.Laws.{by-test}
+use Rattle.splice.specs.Splice.{splice}
+use Rattle.tables.specs.declared.Head.{Head}
+use Rattle.tables.specs.Head.{headOf}
+use Rattle.tables.specs.Table.{typeOf, table, literals}
+use Rattle.lookup.specs.Find.{theDetail, details}
+use Rattle.description.specs.declared.Checked.the-variants.{Accepted}
+use Rattle.description.specs.Check.{checked}
+use Rattle.accepted.specs.Accepted as facts
+use Rattle.compose.specs.Items.{Inputs}
+use Rattle.compose.specs.Facts.{ItemsIn}
+use Rattle.layout.specs.declared.Pos.{Pos}
+use Rattle.layout.specs.Layout.{Due, Laid}
+use Rattle.pages.specs.Bytes.{dueBytes, byteCount}
+use Rattle.pages.specs.Outcome.{lastPage, pastLast, tooShort, outcome, written}
+use Rattle.pagination.specs.All.{All}
+use Rattle.pagination.specs.Rising.{rank, spotsOf}
+use Rattle.pagination.specs.Claims.{Sound, rankAt}
+use Rattle.pagination.proofs.Groups.{sound-none}
+use Rattle.report.specs.declared.Report.{Report}
+use Rattle.report.specs.declared.Verdict.{Verdict}
+use Rattle.report.specs.declared.Verdict.the-variants as verdict
+use Rattle.report.specs.Verdict.{number}
+use Rattle.report.specs.State.{freshAt, keeps, placeOf}
+use Rattle.report.specs.Result.{Result, refuse, Work, moved, settled}
+use Rattle.book.specs.Book.{Call, initiate, generate, terminate, Book, freshPos, freshBook, dueFor, turned, Entry, entered, enter}
+use Rattle.book.specs.Demand.{taken}
+use Rattle.book.proofs.Laws.{Laws, RunFacts, IdleFacts}
+use Rattle.book.proofs.Bytes.{printed-part}
+
+-- the book's row and the kept record have the same control values
+module _ (d : List ℕ) where
+  abbrev h : Head
+  h = headOf d
+
+  abbrev t : List ℕ
+  t = table d
+
+  -- the verdicts that demand 3 allows
+  abbrev pub Fine : ℕ → Type 0
+  Fine n = (n ≡ 0) ⊎ (3 ≤ n) × (n ≤ 9)
+
+  -- what one call must show, for the book's entry and whatever invariant is carried
+  pub record Ok (Inv : Report → Book → Type 0) (b : Book) (c : Call) (reading : Inputs) (r : Result) : Type 0 where
+    pub fine : Fine (number (r .answer .verdict))
+    pub bytes : take (r .answer .count) (r .out) ≡ dueBytes h t reading (enter h t b c (taken d r) .dues)
+    pub sound : Sound h t (enter h t b c (taken d r) .report) (rankAt (b .report) (b .pos)) (rankAt (enter h t b c (taken d r) .next .report) (enter h t b c (taken d r) .next .pos)) (enter h t b c (taken d r) .dues)
+    pub next : Inv (r .answer .report) (enter h t b c (taken d r) .next)
+
+  module _ (Inv : Report → Book → Type 0) (b : Book) (c : Call) (reading : Inputs) (s : Report) (out : List ℕ) (inv : Inv s b) where
+    -- a refusal changes nothing
+    pub refused-ok : (v : Verdict) → 3 ≤ number v → number v ≤ 9 → eqb (number v) 0 ≡ false → Ok Inv b c reading (refuse s out v)
+    unfolding enter dueBytes
+    refused-ok v l m e =
+        record {
+          fine = inr (l, m);
+          bytes = rw e refl;
+          sound = rw e (sound-none h t (b .report) (rankAt (b .report) (b .pos)) (rankAt (b .report) (b .pos)) (omega arith));
+          next = rw e inv;
+        }
+
+    -- a call that prints: 7, 8 and 9, else the groups due by the book
+    module _ (w : Work) (same : w .laid ≡ dueFor h t (b .row) c (b .pos)) (read : reading ≡ w .inputs) (items : ItemsIn h t (w .inputs .lits))
+        (sound : Sound h t (b .report) (rankAt (b .report) (b .pos)) (rankAt (b .report) (w .laid .to)) (w .laid .dues))
+        (stays : turned h t b c (w .laid) .report ≡ b .report) (place : turned h t b c (w .laid) .pos ≡ w .laid .to)
+        (next : w .ok ≡ true → w .laid .to .page ≤ lastPage → Inv (moved w (w .laid .to)) (turned h t b c (w .laid))) where
+      done-ok : w .ok ≡ true → w .laid .to .page ≤ lastPage → Ok Inv b c reading (record { answer = record { verdict = verdict.Accepted; count = byteCount h t (w .laid .dues); report = moved w (w .laid .to) }; out = splice out 0 (dueBytes h t (w .inputs) (w .laid .dues)) })
+      unfolding enter
+      done-ok o l = record {
+        fine = inl refl;
+        bytes = rw (← same, read) (printed-part h t (w .inputs) items (w .laid .dues) (sound .groups) out);
+        sound = rw (← same, stays, place) sound;
+        next = rw (← same) (next o l);
+      }
+
+      pub settled-ok : Ok Inv b c reading (settled h t s w out)
+      unfolding settled outcome written
+      settled-ok =
+          by-test (w .ok)
+          (λ o. by-test (pastLast (w .laid))
+          (λ p. rw (o, p) (refused-ok verdict.Pages (omega arith) (omega arith) refl))
+          (λ p. by-test (tooShort h t (length out) (w .laid))
+          (λ q. rw (o, p, q) (refused-ok verdict.Room (omega arith) (omega arith) refl))
+          (λ q. rw (o, p, q) (done-ok o (ltb-false lastPage (w .laid .to .page) p)))))
+          (λ o. rw o (refused-ok verdict.Sum (omega arith) (omega arith) refl))

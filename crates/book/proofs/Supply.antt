@@ -1,0 +1,97 @@
+-- The laws of the crates below, as the proof of demand 3 takes them, for an accepted description.
+-- Assumes nothing.
+use Prim.Native.Nat.{ℕ, _+_, _≤_, _<_}
+use mathlib.Core.Path.{_≡_, refl, sym, _∙_}
+use mathlib.Core.Bool.{Bool, true, false}
+use mathlib.Core.List.{List}
+use native.Mathlib.Omega.{arith}
+use lib.IntN.{ℤ, pos}
+use lib.ListN.{length, getD, replicate, length-replicate}
+use Rattle.tables.specs.declared.Head.{Head}
+use Rattle.lookup.specs.Find.{details}
+use Rattle.accepted.specs.Accepted.{Accepted}
+use Rattle.sums.specs.Sums.{sumsOk}
+use Rattle.amounts.proofs.Good.{GoodSums, first-good, later-good, last-good}
+use Rattle.place.specs.Rules.{Running}
+use Rattle.shape.specs.Shape.{frameOf}
+use Rattle.state.specs.Rules.{stateOk}
+use Rattle.state.specs.Facts.{PageIn, Ranged, RunningState}
+use Rattle.state.proofs.States.{idle-facts, idle-ok, started-ok, running-facts, running-ok, by-phase, fresh-ok}
+use Rattle.state.proofs.Kept.{padded-zero, padded-formed, padded-controls, flagsSet-beyond}
+use Rattle.report.specs.declared.Report.{Report}
+use Rattle.report.specs.State.{freshAt, keeps, placeOf}
+use Rattle.book.proofs.Laws.{RunFacts, IdleFacts, good-sums, Laws}
+
+module _ (h : Head) (t lits : List ℕ) (A : Accepted h t lits) where
+  page-in : PageIn h
+  page-in = record { body = omega (arith, A .pageFits .fdLd, A .pageFits .ldFt); foot = A .pageFits .ftPage; short = A .pageFits .page999 }
+
+  zeros-at : (n i : ℕ) → getD (replicate n (pos 0)) i (pos 0) ≡ pos 0
+  zeros-at Prim.Native.Nat.zero i = refl
+  zeros-at (Prim.Native.Nat.suc n) Prim.Native.Nat.zero = refl
+  zeros-at (Prim.Native.Nat.suc n) (Prim.Native.Nat.suc i) = zeros-at n i
+
+  run-facts : (s : Report) → s .phase ≡ 2 → keeps h t s ≡ true → RunFacts h t s
+  unfolding frameOf
+  run-facts s e k =
+      let f = running-facts h t (s .page) (s .line) (s .seen) (s .saved) (s .sums) (s .flags) (s .kept) (rw e at k) in
+      record {
+        page1 = f .first;
+        page2 = f .last;
+        spot = record { body = f .body; fresh = f .noBody; kept = f .saving };
+        sumsIn = f .inRange;
+        sumsEnd = f .beyondSums;
+        flagsEnd = f .beyondFlags;
+        keptFormed = f .formed;
+        keptEnd = f .beyondRow;
+      }
+
+  run-ok : (s : Report) → s .phase ≡ 2 → RunFacts h t s → keeps h t s ≡ true
+  unfolding frameOf
+  run-ok s e f =
+      rw e
+      (running-ok h t (s .page) (s .line) (s .seen) (s .saved) (s .sums) (s .flags) (s .kept) page-in
+      (record {
+        first = f .page1;
+        last = f .page2;
+        inRange = f .sumsIn;
+        body = f .spot .body;
+        noBody = f .spot .fresh;
+        saving = f .spot .kept;
+        beyondSums = f .sumsEnd;
+        beyondFlags = f .flagsEnd;
+        formed = f .keptFormed;
+        beyondRow = f .keptEnd;
+      }))
+
+  idle-facts' : (s : Report) → s .phase ≡ 0 → keeps h t s ≡ true → IdleFacts h s
+  idle-facts' s e k =
+      let f = idle-facts h t (s .page) (s .line) (s .seen) (s .saved) (s .sums) (s .flags) (s .kept) (rw e at k) in
+      record { page1 = f .first; page2 = f .last; line = f .onPage; saved = f .small; sumsIn = f .inRange }
+
+  idle-ok' : (s : Report) → s .phase ≡ 0 → IdleFacts h s → keeps h t s ≡ true
+  idle-ok' s e f =
+      rw e (idle-ok h t (s .page) (s .line) (s .seen) (s .saved) (s .sums) (s .flags) (s .kept) (record { first = f .page1; last = f .page2; onPage = f .line; small = f .saved; inRange = f .sumsIn }))
+
+  zero-range : sumsOk (replicate 32 (pos 0)) ≡ true
+  zero-range = idle-facts h t 1 0 false 0 (replicate 32 (pos 0)) (replicate 8 false) (replicate 256 0) (fresh-ok h t) .inRange
+
+  pub laws : Laws h t
+  laws = record {
+    run-facts = run-facts;
+    run-ok = run-ok;
+    idle-facts = idle-facts';
+    idle-ok = idle-ok';
+    started-ok =
+        started-ok h t 1 0 false 0 (replicate 32 (pos 0)) (replicate 8 false) (replicate 256 0)
+        (record { firstPage = refl; noLine = refl; noBody = refl; noSaved = refl; noSums = refl; noFlags = refl; noRow = refl });
+    phase-listed = λ s k. by-phase h t (s .page) (s .line) (s .seen) (s .saved) (s .sums) (s .flags) (s .kept) (s .phase) k (λ e. omega arith) (λ e. omega arith) (λ e. omega arith);
+    first-sums = λ row d sums g. first-good h t (A .countersIn .few) sums g row d .sums;
+    later-sums = λ row d b sums g. later-good h t (A .countersIn .few) sums g row d b .sums;
+    last-sums = λ sums g. last-good h t (A .countersIn .few) sums g .sums;
+    zero-sums = record { range = zero-range; long = length-replicate 32 (pos 0); beyond = λ i m. zeros-at 32 i };
+    padded-formed = λ row l e. padded-formed row (A .fieldsIn) (omega arith) ∙ e;
+    padded-end = λ row l i m n. padded-zero row i (omega arith) n;
+    padded-same = λ row l. padded-controls row (A .fieldsIn) (omega arith) (A .controlsIn);
+    set-end = λ i m n. flagsSet-beyond (details h t) i m n;
+  }

@@ -1,0 +1,3 @@
+-- Demand 3.
+pub mod Book
+pub mod Demand

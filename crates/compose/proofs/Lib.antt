@@ -1,0 +1,3 @@
+-- The laws of items and lines.
+pub mod Items
+pub mod Lines

@@ -1,0 +1,48 @@
+-- `counters::addends_ok` meets its contract. The invariant: the flag is the test of every addend passed.
+-- Assumes nothing.
+use Prim.Native.Nat.{_≤_, _-_}
+use mathlib.Core.Path.{_≡_, refl}
+use mathlib.Core.Bool.{_&&_}
+use native.Mathlib.Omega.{arith}
+use borrow.Author.Needs.{needs}
+use borrow.Author.Tests.{not-true, not-false}
+use lib.Dec.{leb}
+use Rattle.counts.specs.Below.{allBelow}
+use Rattle.counts.proofs.Laws.{all-next}
+use Rattle.counters.specs.Counters.{ownAddendOk, addendsOk}
+use Rattle.counters.proofs.addends_ok.Statement.{statement}
+use Rattle.counters.proofs.addends_ok.Tie as tie
+
+abbrev Inv-loop : tie.InvT-loop
+Inv-loop t h d k first n few ok₀ j₀ ok j = (j ≤ n) × (ok ≡ allBelow j (ownAddendOk h t d k))
+
+abbrev μ-loop : tie.MeasureT-loop
+μ-loop t h d k first n few ok₀ j₀ ok j = n - j
+
+returns : tie.Need-returns Inv-loop μ-loop
+unfolding addendsOk
+returns c =
+    let n = c .before .counter-num2 in
+    let few = rw (n .ensures .is) at (not-true (leb 1 (n .result) && leb (n .result) 8) (c .if1 .taken)) in
+    rw few refl
+
+loop-holds : tie.Need-loop-holds Inv-loop μ-loop
+unfolding allBelow
+loop-holds c = search needs
+
+loop-again : tie.Need-loop-again Inv-loop μ-loop
+unfolding ownAddendOk
+loop-again c = (omega arith, all-next _ _ (c .before .before .before .loop .inv .1) (cc))
+
+returns-2 : tie.Need-returns-2 Inv-loop μ-loop
+unfolding addendsOk
+returns-2 c =
+    let n = c .before .before .before .counter-num2 in
+    let e : c .before .loop .j ≡ n .result = omega arith in
+    let few = rw (n .ensures .is) at (not-false (leb 1 (n .result) && leb (n .result) 8) (c .before .before .if1 .left)) in
+    rw few (cc)
+
+pub addends-ok-spec : {M : Type 1} → statement M
+addends-ok-spec =
+    tie.close
+    (tie.spec Inv-loop μ-loop (λ c κs. search needs) (λ c κs. search needs) returns loop-holds (λ c. omega arith) (λ c κs. omega arith) (λ c κs. omega arith) (λ c. omega arith) (λ c. omega arith) loop-again returns-2)

@@ -1,0 +1,11 @@
+-- `counters::level_of` meets its contract, from the number of its group.
+-- Assumes nothing.
+use borrow.Author.Needs.{needs}
+use Rattle.counters.proofs.level_of.Statement.{statement}
+use Rattle.counters.proofs.level_of.Tie as tie
+
+returns : tie.Need-returns
+returns c = record { is = cc; small = search needs }
+
+pub level-of-spec : {M : Type 1} → statement M
+level-of-spec = tie.close (tie.spec (λ c κs. search needs) (λ c κs. search needs) returns)

@@ -1,0 +1,47 @@
+-- "first broken rule, 1 to 8": D1 on the bytes, then D2 to D8 on the tables, in turn.
+use Prim.Native.Nat.{ℕ}
+use mathlib.Core.Bool.{Bool, true, false}
+use mathlib.Core.List.{List}
+use Rattle.file.specs.Sections.{ruleD1}
+use Rattle.tables.specs.declared.Head.{Head}
+use Rattle.tables.specs.Head.{headOf}
+use Rattle.tables.specs.Table.{table, literals}
+use Rattle.fields.specs.Page.{ruleD2}
+use Rattle.fields.specs.Fields.{ruleD3}
+use Rattle.fields.specs.Controls.{ruleD4}
+use Rattle.groups.specs.Groups.{ruleD5}
+use Rattle.fits.specs.Fits.{ruleD6}
+use Rattle.items.specs.Items.{ruleD7}
+use Rattle.counters.specs.Counters.{ruleD8}
+use Rattle.description.specs.declared.Checked.{Checked}
+use Rattle.description.specs.declared.Checked.the-variants.{Accepted, Broken}
+
+-- the answer where rule k is kept or broken, with the answer of the rules after it
+abbrev pub after : ℕ → Bool → Checked → Checked
+after k true rest = rest
+after k false rest = Broken k
+
+unfoldable pub from8 : Head → List ℕ → Checked
+from8 h t = after 8 (ruleD8 h t) Accepted
+
+unfoldable pub from7 : Head → List ℕ → List ℕ → Checked
+from7 h t lits = after 7 (ruleD7 h t lits) (from8 h t)
+
+unfoldable pub from6 : Head → List ℕ → List ℕ → Checked
+from6 h t lits = after 6 (ruleD6 h t) (from7 h t lits)
+
+unfoldable pub from5 : Head → List ℕ → List ℕ → Checked
+from5 h t lits = after 5 (ruleD5 h t) (from6 h t lits)
+
+unfoldable pub from4 : Head → List ℕ → List ℕ → Checked
+from4 h t lits = after 4 (ruleD4 h t) (from5 h t lits)
+
+unfoldable pub from3 : Head → List ℕ → List ℕ → Checked
+from3 h t lits = after 3 (ruleD3 h t) (from4 h t lits)
+
+unfoldable pub judged : Head → List ℕ → List ℕ → Checked
+judged h t lits = after 2 (ruleD2 h) (from3 h t lits)
+
+-- the answer of CHECK
+unfoldable pub checked : List ℕ → Checked
+checked d = after 1 (ruleD1 d) (judged (headOf d) (table d) (literals d))

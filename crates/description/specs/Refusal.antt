@@ -1,0 +1,22 @@
+-- The paper's number and extra number for each answer of CHECK.
+use Prim.Native.Nat.{ℕ}
+use mathlib.Core.Path.{_≡_}
+use mathlib.Core.List.{List}
+use Rattle.description.specs.Check.{checked}
+use Rattle.description.specs.declared.Checked.{Checked}
+use Rattle.description.specs.declared.Checked.the-variants.{Accepted, Broken}
+
+-- "1 | description breaks a rule D1 to D8 | first broken rule, 1 to 8"; 0 where it is accepted
+abbrev pub number : Checked → ℕ
+number Accepted = 0
+number (Broken k) = 1
+
+abbrev pub extra : Checked → ℕ
+extra Accepted = 0
+extra (Broken k) = k
+
+-- what CHECK promises: the answer of the definition, so its number and its extra number
+pub record Answers (d : List ℕ) (r : Checked) : Type 0 where
+  pub is : r ≡ checked d
+  pub numberIs : number r ≡ number (checked d)
+  pub extraIs : extra r ≡ extra (checked d)

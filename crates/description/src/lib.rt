@@ -1,0 +1,64 @@
+// CHECK: a description is accepted exactly when it keeps D1 to D8.
+ghost use mathlib.Core.Path.{_≡_};
+ghost use Rattle.description.specs.Check.{checked, judged};
+ghost use Rattle.description.specs.Refusal.{Answers};
+ghost use Rattle.tables.specs.Table.{literals};
+ghost use Rattle.description.specs.Facts.{LiteralsIn};
+use file::Kept;
+use tables::Head;
+
+// The answer of CHECK: the number is that of the first broken rule.
+pub enum Checked {
+    Accepted,
+    Broken(usize),
+}
+
+// D2 to D8, on the tables.
+pub fn judge(t: &[u16], h: Head, lits: &[u8]) -> Checked
+    ensures { λ r. ⌜ r ≡ judged h (now (t .entry)) (now (lits .entry)) ⌝ }
+{
+    let Kept::Yes = fields::rule_d2(h) else {
+        return Checked::Broken(2);
+    };
+    let Kept::Yes = fields::rule_d3(t, h) else {
+        return Checked::Broken(3);
+    };
+    let Kept::Yes = fields::rule_d4(t, h) else {
+        return Checked::Broken(4);
+    };
+    let Kept::Yes = groups::rule_d5(t, h) else {
+        return Checked::Broken(5);
+    };
+    let Kept::Yes = fits::rule_d6(t, h) else {
+        return Checked::Broken(6);
+    };
+    let Kept::Yes = items::rule_d7(t, h, lits) else {
+        return Checked::Broken(7);
+    };
+    let Kept::Yes = counters::rule_d8(t, h) else {
+        return Checked::Broken(8);
+    };
+    Checked::Accepted
+}
+
+// The literal bytes of a description that keeps D1.
+pub fn literals_of(d: &[u8]) -> &[u8]
+    requires { ⌜ LiteralsIn (now d) ⌝ }
+    ensures { λ r. ⌜ now r ≡ literals (now (d .entry)) ⌝ }
+{
+    let start = file::start_of(d, 7);
+    let end = start + file::count_of(d, 7);
+    &d[start..end]
+}
+
+// CHECK: any bytes, nothing written.
+pub fn check(d: &[u8]) -> Checked
+    ensures { λ r. ⌜ Answers (now (d .entry)) r ⌝ }
+{
+    let Kept::Yes = file::rule_d1(d) else {
+        return Checked::Broken(1);
+    };
+    let mut t = [0u16; 4392];
+    tables::unpack(d, &mut t);
+    judge(&t, tables::head_of(d), literals_of(d))
+}

@@ -1,0 +1,13 @@
+-- `fields::rule_d2` meets its contract. The code computes the definition's own tests.
+-- Assumes nothing.
+use borrow.Author.Needs.{needs}
+use Rattle.fields.specs.Page.{ruleD2}
+use Rattle.fields.proofs.rule_d2.Statement.{statement}
+use Rattle.fields.proofs.rule_d2.Tie as tie
+
+returns : tie.Need-returns
+unfolding ruleD2
+returns c = cc
+
+pub rule-d2-spec : {M : Type 1} → statement M
+rule-d2-spec = tie.close (tie.spec (λ c κs. search needs) returns)

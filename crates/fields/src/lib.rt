@@ -1,0 +1,93 @@
+// Rules D2, D3 and D4: the page, the fields and the controls.
+ghost use mathlib.Core.Path.{_≡_};
+ghost use Prim.Native.Nat.{_<_};
+ghost use Rattle.counts.specs.Below.{allBelow};
+ghost use Rattle.file.specs.Kept.{kept};
+ghost use Rattle.fields.specs.Page.{ruleD2};
+ghost use Rattle.fields.specs.Fields.{fieldOk, ruleD3};
+ghost use Rattle.fields.specs.Controls.{differs, controlOk, ruleD4};
+use file::Kept;
+use tables::Head;
+
+pub fn rule_d2(h: Head) -> Kept
+    ensures { λ r. ⌜ r ≡ kept (ruleD2 h) ⌝ }
+{
+    file::answer(
+        (1 <= h.top)
+            & (h.top <= h.fd)
+            & (h.fd <= h.ld)
+            & (h.ld <= h.ft)
+            & (h.ft <= h.page)
+            & (h.page <= 999)
+            & (1 <= h.width)
+            & (h.width <= 132)
+            & (1 <= h.reclen)
+            & (h.reclen <= 256),
+    )
+}
+
+// D3 of one field.
+fn field_ok(t: &[u16], h: Head, i: usize) -> bool
+    requires { ⌜ i < 65536 ⌝ }
+    ensures { λ r. ⌜ r ≡ fieldOk h (now (t .entry)) i ⌝ }
+{
+    let kind = tables::field_num(t, i, 0);
+    let offset = tables::field_num(t, i, 1);
+    let width = tables::field_num(t, i, 2);
+    let length = tables::wide(h.reclen);
+    (offset + width <= length)
+        & ((kind == 0) & (1 <= width) & (width <= 64) | (kind == 1) & (2 <= width) & (width <= 18))
+}
+
+pub fn rule_d3(t: &[u16], h: Head) -> Kept
+    ensures { λ r. ⌜ r ≡ kept (ruleD3 h (now (t .entry))) ⌝ }
+{
+    let n = tables::wide(h.fields);
+    let mut ok = true;
+    let mut i = 0;
+    while i < n {
+        let this = field_ok(t, h, i);
+        ok = ok & this;
+        i += 1;
+    }
+    file::answer(ok)
+}
+
+// No control before control `i` has this field index.
+fn differs_from_earlier(t: &[u16], h: Head, i: usize, index: usize) -> bool
+    requires { ⌜ i < 65536 ⌝ }
+    ensures { λ r. ⌜ r ≡ allBelow i (differs h (now (t .entry)) index) ⌝ }
+{
+    let mut ok = true;
+    let mut j = 0;
+    while j < i {
+        let this = tables::control_num(t, h, j) != index;
+        ok = ok & this;
+        j += 1;
+    }
+    ok
+}
+
+// D4 of one control.
+fn control_ok(t: &[u16], h: Head, i: usize) -> bool
+    requires { ⌜ i < 65536 ⌝ }
+    ensures { λ r. ⌜ r ≡ controlOk h (now (t .entry)) i ⌝ }
+{
+    let index = tables::control_num(t, h, i);
+    let fields = tables::wide(h.fields);
+    ((index == 65535) & (i == 0) | (index < fields)) & differs_from_earlier(t, h, i, index)
+}
+
+pub fn rule_d4(t: &[u16], h: Head) -> Kept
+    ensures { λ r. ⌜ r ≡ kept (ruleD4 h (now (t .entry))) ⌝ }
+{
+    let n = tables::wide(h.controls);
+    let mut ok = true;
+    let mut i = 0;
+    while i < n {
+        let this = control_ok(t, h, i);
+        ok = ok & this;
+        i += 1;
+    }
+    file::answer(ok)
+}

@@ -1,0 +1,15 @@
+-- `fits::body_fits` meets its contract. The code computes the definition's own tests, on the numbers that it reads.
+-- Assumes nothing.
+use borrow.Author.Needs.{needs}
+use Rattle.fits.specs.Fits.{bodyFits}
+use Rattle.fits.proofs.body_fits.Statement.{statement}
+use Rattle.fits.proofs.body_fits.Tie as tie
+
+returns : tie.Need-returns
+unfolding bodyFits
+returns c = cc
+
+pub body-fits-spec : {M : Type 1} → statement M
+body-fits-spec =
+    tie.close
+    (tie.spec (λ c κs. search needs) (λ c κs. search needs) (λ c κs. search needs) (λ c κs. search needs) (λ c κs. search needs) (λ c. search needs) returns)

@@ -1,0 +1,15 @@
+-- `fits::head_end` meets its contract. The definition's own steps.
+-- Assumes nothing.
+use borrow.Author.Needs.{needs}
+use Rattle.fits.specs.Starts.{headEnd}
+use Rattle.fits.proofs.head_end.Statement.{statement}
+use Rattle.fits.proofs.head_end.Tie as tie
+
+returns : tie.Need-returns
+unfolding headEnd
+returns c = record { is = cc; small = search needs }
+
+pub head-end-spec : {M : Type 1} → statement M
+head-end-spec =
+    tie.close
+    (tie.spec (λ c κs. search needs) (λ c κs. search needs) (λ c κs. search needs) returns)

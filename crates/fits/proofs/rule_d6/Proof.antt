@@ -1,0 +1,15 @@
+-- `fits::rule_d6` meets its contract. The code computes the definition's own tests.
+-- Assumes nothing.
+use borrow.Author.Needs.{needs}
+use Rattle.fits.specs.Fits.{ruleD6}
+use Rattle.fits.proofs.rule_d6.Statement.{statement}
+use Rattle.fits.proofs.rule_d6.Tie as tie
+
+returns : tie.Need-returns
+unfolding ruleD6
+returns c = cc
+
+pub rule-d6-spec : {M : Type 1} → statement M
+rule-d6-spec =
+    tie.close
+    (tie.spec (λ c κs. search needs) (λ c κs. search needs) (λ c κs. search needs) (λ c κs. search needs) (λ c κs. search needs) (λ c κs. search needs) returns)

@@ -1,0 +1,74 @@
+-- What additions, zeros and shows keep, a footing keeps: range, and what later crates add.
+-- Assumes nothing.
+use Prim.Native.Nat.{ℕ, _<_}
+use mathlib.Core.Path.{refl}
+use mathlib.Core.Bool.{_&&_}
+use mathlib.Core.List.{List}
+use lib.Dec.{eqb}
+use lib.IntN.{ℤ, pos}
+use Rattle.counts.proofs.Laws.{by-cond}
+use Rattle.tables.specs.declared.Head.{Head}
+use Rattle.tables.specs.Table.{levelOf, counterGroup}
+use Rattle.sums.specs.declared.Totals.{Totals}
+use Rattle.sums.specs.Sums.{sumAt, put, addAt}
+use Rattle.sums.specs.Facts.{InRange}
+use Rattle.sums.proofs.Folds.{fold-keeps}
+use Rattle.sums.proofs.Range.{sums-set, add-range}
+use Rattle.sums.proofs.Kept.{each-addend-keeps}
+use Rattle.footing.specs.declared.Step.{Step}
+use Rattle.footing.specs.declared.Step.the-variants.{Crossfoot, RollUp, Show, Reset}
+use Rattle.footing.specs.Rolling.{sameGroup, addSame, crossCounter, names, senior, rollInto, rollCounter, showCounter, resets, resetCounter}
+use Rattle.footing.specs.Footing.{stepOf, atOwn, eachOwn, footing}
+
+-- what is done to counters below n keeps P
+pub record Closed (n : ℕ) (P : Totals → Type 0) : Type 0 where
+  pub add : (k : ℕ) (x : ℤ) (acc : Totals) → k < n → P acc → P (addAt k x acc)
+  pub show : (k : ℕ) (acc : Totals) → k < n → P acc → P (showCounter k acc)
+  pub zero : (k : ℕ) (acc : Totals) → k < n → P acc → P (put k (pos 0) acc)
+
+-- the range of the sums is kept
+pub range-closed : (n : ℕ) → Closed n InRange
+range-closed n =
+    record {
+      add = λ k x acc l r. add-range k x r;
+      show = λ k acc l r. record { sums = r .sums };
+      zero = λ k acc l r. record { sums = sums-set (acc .sums) k (pos 0) refl (r .sums) };
+    }
+
+module _ (h : Head) (t : List ℕ) {P : Totals → Type 0} (c : Closed (h .counters) P) where
+  pub add-same-keeps : (g k a : ℕ) → k < h .counters → {acc : Totals} → P acc → P (addSame h t g k a acc)
+  unfolding addSame
+  add-same-keeps g k a l {acc} p = by-cond P (sameGroup h t g a) (λ e. c .add k _ acc l p) (λ e. p)
+
+  cross-keeps : (g k : ℕ) → k < h .counters → {acc : Totals} → P acc → P (crossCounter h t g k acc)
+  unfolding crossCounter
+  cross-keeps g k l p = each-addend-keeps h t P k (addSame h t g k) (λ a acc q. add-same-keeps g k a l q) p
+
+  pub roll-into-keeps : (level k : ℕ) (x : ℤ) (s : ℕ) → s < h .counters → {acc : Totals} → P acc → P (rollInto h t level k x s acc)
+  unfolding rollInto
+  roll-into-keeps level k x s l {acc} p = by-cond P (senior h t level s && names h t s k) (λ e. c .add s x acc l p) (λ e. p)
+
+  roll-keeps : (g k : ℕ) {acc : Totals} → P acc → P (rollCounter h t g k acc)
+  unfolding rollCounter
+  roll-keeps g k {acc} p =
+      fold-keeps (rollInto h t (levelOf h t g) k (sumAt k acc)) P (h .counters) (λ s a l q. roll-into-keeps (levelOf h t g) k (sumAt k acc) s l q) p
+
+  reset-keeps : (b k : ℕ) → k < h .counters → {acc : Totals} → P acc → P (resetCounter h t b k acc)
+  reset-keeps b k l {acc} p = by-cond P (resets h t b k) (λ e. c .zero k acc l p) (λ e. p)
+
+  step-keeps : (g b : ℕ) (step : Step) (k : ℕ) → k < h .counters → {acc : Totals} → P acc → P (stepOf h t g b step k acc)
+  step-keeps g b Crossfoot k l p = cross-keeps g k l p
+  step-keeps g b RollUp k l p = roll-keeps g k p
+  step-keeps g b Show k l {acc} p = c .show k acc l p
+  step-keeps g b Reset k l p = reset-keeps b k l p
+
+  pub at-own-keeps : (g b : ℕ) (step : Step) (k : ℕ) → k < h .counters → {acc : Totals} → P acc → P (atOwn h t g (stepOf h t g b step) k acc)
+  at-own-keeps g b step k l p = by-cond P (eqb (counterGroup h t k) g) (λ e. step-keeps g b step k l p) (λ e. p)
+
+  pub own-keeps : (g b : ℕ) (step : Step) {acc : Totals} → P acc → P (eachOwn h t g (stepOf h t g b step) acc)
+  unfolding eachOwn
+  own-keeps g b step p = fold-keeps (atOwn h t g (stepOf h t g b step)) P (h .counters) (λ k acc l q. at-own-keeps g b step k l q) p
+
+  pub footing-keeps : (g b : ℕ) {acc : Totals} → P acc → P (footing h t g b acc)
+  unfolding footing
+  footing-keeps g b p = own-keeps g b Reset (own-keeps g b Show (own-keeps g b RollUp (own-keeps g b Crossfoot p)))

@@ -1,0 +1,57 @@
+-- `footing::add_same` meets its contract: D8 says that the addend's counter exists.
+-- Assumes nothing.
+use Prim.Native.Nat.{_<_}
+use mathlib.Core.Path.{_≡_, refl, sym, _∙_}
+use mathlib.Core.Bool.{true}
+use native.Mathlib.Omega.{arith}
+use borrow.Author.Needs.{needs}
+use borrow.Author.Tests.{eqb-true}
+use Rattle.counts.proofs.Laws.{and-l}
+use Rattle.sums.specs.Sums.{inRange, sumAt}
+use Rattle.sums.proofs.Range.{read-in, sum-in}
+use Rattle.footing.specs.Rolling.{addSame}
+use Rattle.footing.proofs.add_same.Statement.{statement}
+use Rattle.footing.proofs.add_same.Tie as tie
+
+-- the addend names a counter, which stands below 32
+named : (c : tie.Then1) → c .before .before .addend-num2 .result < 32
+named c =
+    let b = c .before .before .before .before .before in
+    let k = sym (c .before .before .before .addend-num .ensures .is) ∙ eqb-true _ _ (and-l _ _ (c .if1 .taken)) in
+    omega (arith, b .pre .1 .0 .counter k, c .before .before .addend-num2 .ensures .is, b .pre .0 .0 .few)
+
+-- and its sum is in range
+in-range : (c : tie.After-x) → inRange (sumAt (c .before .before .before .addend-num2 .result) (c .before .before .before .before .before .before .args .t6)) ≡ true
+in-range c = sum-in (c .before .before .before .before .before .before .args .t6 .sums) _ (named (c .before)) (c .before .before .before .before .before .before .pre .0 .1 .sums)
+
+add-at-requires : tie.Need-add-at-requires
+add-at-requires c κs =
+    let p = c .before .before .before .before .before .before .pre in
+    (p .0 .1, (omega (arith, p .1 .1 .0, p .0 .0 .few), rw (read-in _ (in-range c)) (in-range c)))
+
+returns : tie.Need-returns
+unfolding addSame
+returns c =
+    let b = c .before .before .before in
+    let s = rw (b .before .addend-num2 .ensures .is, b .before .before .addend-num .ensures .is) at (rw (b .counter-num .ensures .is) at (c .before .before .if1 .taken)) in
+    rw (s, ← b .before .addend-num2 .ensures .is) (rw (read-in _ (in-range (c .before))) at (c .add-at .ensures))
+
+returns-2 : tie.Need-returns-2
+unfolding addSame
+returns-2 c =
+    let b = c .before in
+    let s = rw (b .before .addend-num2 .ensures .is, b .before .before .addend-num .ensures .is) at (rw (b .counter-num .ensures .is) at (c .if1 .left)) in
+    rw s refl
+
+pub add-same-spec : {M : Type 1} → statement M
+add-same-spec =
+    tie.close
+    (tie.spec
+    (λ c κs. search needs)
+    (λ c κs. search needs)
+    (λ c κs. search needs)
+    (λ c. search needs)
+    (λ c. named c)
+    add-at-requires
+    returns
+    returns-2)

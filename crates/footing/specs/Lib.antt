@@ -1,0 +1,3 @@
+-- What a control footing does to the sums.
+pub mod Rolling
+pub mod Footing

@@ -1,0 +1,54 @@
+-- Crossfoot, roll-up, what a footing shows, and resets, each of one counter.
+use Prim.Native.Nat.{ℕ, _+_}
+use mathlib.Core.Bool.{Bool, cond, _&&_, not}
+use mathlib.Core.List.{List}
+use lib.Dec.{eqb, ltb, leb}
+use lib.IntN.{ℤ, pos}
+use lib.ListN.{set}
+use Rattle.counts.specs.Below.{firstBelow, foldBelow}
+use Rattle.tables.specs.declared.Head.{Head}
+use Rattle.tables.specs.Table.{control, final, levelOf, counterGroup, resetLevel, firstAddend, addendCount, addendKind, addendIndex}
+use Rattle.sums.specs.declared.Totals.{Totals}
+use Rattle.sums.specs.Sums.{sumAt, put, addAt}
+use Rattle.sums.specs.Subtotal.{eachAddend}
+
+-- addend a names a counter of group g
+abbrev pub sameGroup : Head → List ℕ → ℕ → ℕ → Bool
+sameGroup h t g a = eqb (addendKind h t a) 1 && eqb (counterGroup h t (addendIndex h t a)) g
+
+unfoldable pub addSame : Head → List ℕ → ℕ → ℕ → ℕ → Totals → Totals
+addSame h t g k a acc = cond (sameGroup h t g a) (addAt k (sumAt (addendIndex h t a) acc) acc) acc
+
+-- "its counters in order add their same-group addends (crossfoot)"
+unfoldable pub crossCounter : Head → List ℕ → ℕ → ℕ → Totals → Totals
+crossCounter h t g k acc = eachAddend h t k (addSame h t g k) acc
+
+-- counter s names counter k
+abbrev pub namesAt : Head → List ℕ → ℕ → ℕ → ℕ → Bool
+namesAt h t s k j = eqb (addendKind h t (firstAddend h t s + j)) 1 && eqb (addendIndex h t (firstAddend h t s + j)) k
+
+unfoldable pub names : Head → List ℕ → ℕ → ℕ → Bool
+names h t s k = ltb (firstBelow (addendCount h t s) (namesAt h t s k)) (addendCount h t s)
+
+-- counter s is more senior than a level
+abbrev pub senior : Head → List ℕ → ℕ → ℕ → Bool
+senior h t level s = ltb (levelOf h t (counterGroup h t s)) level
+
+-- counter k, of that level and with sum x, is added to counter s
+unfoldable pub rollInto : Head → List ℕ → ℕ → ℕ → ℤ → ℕ → Totals → Totals
+rollInto h t level k x s acc = cond (senior h t level s && names h t s k) (addAt s x acc) acc
+
+-- "then in order each is added to every more senior counter naming it, in counter order"
+unfoldable pub rollCounter : Head → List ℕ → ℕ → ℕ → Totals → Totals
+rollCounter h t g k acc = foldBelow (h .counters) (rollInto h t (levelOf h t g) k (sumAt k acc)) acc
+
+-- "then it prints": the sum is shown as it is then
+abbrev pub showCounter : ℕ → Totals → Totals
+showCounter k acc = record { ok = acc .ok; sums = acc .sums; shown = set (acc .shown) k (sumAt k acc) }
+
+-- "then its own counters with reset level ≥ b go to 0, except where that level is FINAL"
+abbrev pub resets : Head → List ℕ → ℕ → ℕ → Bool
+resets h t b k = leb b (resetLevel h t k) && not (eqb (control h t (resetLevel h t k)) final)
+
+abbrev pub resetCounter : Head → List ℕ → ℕ → ℕ → Totals → Totals
+resetCounter h t b k acc = cond (resets h t b k) (put k (pos 0) acc) acc

@@ -1,0 +1,34 @@
+-- `items::all_items_ok` meets its contract. The invariant: the flag is the test of every group passed.
+-- Assumes nothing.
+use Prim.Native.Nat.{_≤_, _-_}
+use mathlib.Core.Path.{_≡_}
+use native.Mathlib.Omega.{arith}
+use borrow.Author.Needs.{needs}
+use Rattle.counts.specs.Below.{allBelow}
+use Rattle.counts.proofs.Laws.{all-next}
+use Rattle.items.specs.Items.{groupItemsOk}
+use Rattle.items.proofs.all_items_ok.Statement.{statement}
+use Rattle.items.proofs.all_items_ok.Tie as tie
+
+abbrev Inv-loop : tie.InvT-loop
+Inv-loop t h lits n ok₀ g₀ ok g = (g ≤ n) × (ok ≡ allBelow g (groupItemsOk h t lits))
+
+abbrev μ-loop : tie.MeasureT-loop
+μ-loop t h lits n ok₀ g₀ ok g = n - g
+
+loop-holds : tie.Need-loop-holds Inv-loop μ-loop
+unfolding allBelow
+loop-holds c = search needs
+
+loop-again : tie.Need-loop-again Inv-loop μ-loop
+loop-again c = (omega arith, all-next _ _ (c .before .before .loop .inv .1) (c .group-items-ok .ensures))
+
+returns : tie.Need-returns Inv-loop μ-loop
+returns c =
+    let e : c .before .loop .g ≡ c .before .before .wide .result = omega arith in
+    cc
+
+pub all-items-ok-spec : {M : Type 1} → statement M
+all-items-ok-spec =
+    tie.close
+    (tie.spec Inv-loop μ-loop (λ c κs. search needs) loop-holds (λ c κs. omega arith) (λ c. omega arith) (λ c. omega arith) loop-again returns)

@@ -1,0 +1,49 @@
+-- `items::line_items_ok` meets its contract. The invariant: the flag is the test of every item passed, and the free column behind them.
+-- Assumes nothing.
+use Prim.Native.Nat.{_≤_, _-_}
+use mathlib.Core.Path.{_≡_}
+use native.Mathlib.Omega.{arith}
+use borrow.Author.Needs.{needs}
+use Rattle.counts.specs.Below.{allBelow}
+use Rattle.counts.proofs.Laws.{all-next}
+use Rattle.items.specs.Items.{freeColumn, itemOk, lineItemsOk}
+use Rattle.items.proofs.Laws.{item-is, free-next}
+use Rattle.items.proofs.line_items_ok.Statement.{statement}
+use Rattle.items.proofs.line_items_ok.Tie as tie
+
+abbrev Inv-loop : tie.InvT-loop
+Inv-loop t h lits g l first n ok₀ free₀ m₀ ok free m =
+    (m ≤ n) × ((ok ≡ allBelow m (itemOk h t lits g l)) × (free ≡ freeColumn h t l m))
+
+abbrev μ-loop : tie.MeasureT-loop
+μ-loop t h lits g l first n ok₀ free₀ m₀ ok free m = n - m
+
+loop-holds : tie.Need-loop-holds Inv-loop μ-loop
+unfolding allBelow freeColumn
+loop-holds c = search needs
+
+loop-again : tie.Need-loop-again Inv-loop μ-loop
+loop-again c =
+    let b = c .before .before .before .before .before in
+    let a = b .before .before .before .before .before .args in
+    let f = b .before .before .line-num .ensures .is in
+    let column = c .before .before .before .item-num .ensures .is in
+    let width = c .before .before .item-num2 .ensures .is in (
+      omega arith,
+      (
+        all-next _ _ (b .loop .inv .1 .0)
+            (item-is (a .h) (a .t .now) (a .l) (b .loop .m) f column width (a .lits .now) (a .g) (b .loop .inv .1 .1) (c .before .place-ok .ensures) (c .shown-ok .ensures)),
+        free-next (a .h) (a .t .now) (a .l) (b .loop .m) f column width,
+      ),
+    )
+
+returns : tie.Need-returns Inv-loop μ-loop
+unfolding lineItemsOk
+returns c =
+    let e : c .before .loop .m ≡ c .before .before .line-num2 .result = omega arith in
+    cc
+
+pub line-items-ok-spec : {M : Type 1} → statement M
+line-items-ok-spec =
+    tie.close
+    (tie.spec Inv-loop μ-loop (λ c κs. search needs) (λ c κs. search needs) loop-holds (λ c. omega arith) (λ c κs. omega arith) (λ c κs. omega arith) (λ c κs. search needs) (λ c κs. omega arith) (λ c. omega arith) (λ c. omega arith) (λ c. omega arith) loop-again returns)

@@ -1,0 +1,13 @@
+-- `items::rule_d7` meets its contract, from its two loops.
+-- Assumes nothing.
+use borrow.Author.Needs.{needs}
+use Rattle.items.specs.Items.{ruleD7}
+use Rattle.items.proofs.rule_d7.Statement.{statement}
+use Rattle.items.proofs.rule_d7.Tie as tie
+
+returns : tie.Need-returns
+unfolding ruleD7
+returns c = cc
+
+pub rule-d7-spec : {M : Type 1} → statement M
+rule-d7-spec = tie.close (tie.spec (λ c κs. search needs) (λ c κs. search needs) (λ c κs. search needs) returns)

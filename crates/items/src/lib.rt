@@ -1,0 +1,169 @@
+// D7: the items of every line, and the literal bytes.
+ghost use mathlib.Core.Path.{_≡_};
+ghost use Prim.Native.Nat.{_<_};
+ghost use lib.ListN.{length};
+ghost use Rattle.counts.specs.Below.{allBelow};
+ghost use Rattle.file.specs.Kept.{kept};
+ghost use Rattle.items.specs.Sources.{ofControl, fieldItemOk, sourceOk, decimalsOk, flagOk, shownOk};
+ghost use Rattle.items.specs.Items.{placeOk, lineItemsOk, groupItemsOk, literalOk, ruleD7};
+use file::Kept;
+use tables::Head;
+
+// Some control has this field.
+fn of_control(t: &[u16], h: Head, f: usize) -> bool
+    ensures { λ r. ⌜ r ≡ ofControl h (now (t .entry)) f ⌝ }
+{
+    let n = tables::wide(h.controls);
+    let mut k = 0;
+    while k < n {
+        if tables::control_num(t, h, k) == f {
+            return true;
+        }
+        k += 1;
+    }
+    false
+}
+
+// A field item's field exists and, outside a detail, is a control's.
+fn field_item_ok(t: &[u16], h: Head, g: usize, f: usize) -> bool
+    requires { ⌜ g < 65536 ⌝ }
+    ensures { λ r. ⌜ r ≡ fieldItemOk h (now (t .entry)) g f ⌝ }
+{
+    let there = f < tables::wide(h.fields);
+    if tables::group_num(t, h, g, 0) == 3 {
+        return there;
+    }
+    of_control(t, h, f) & there
+}
+
+// An item's index exists, by its source kind.
+fn source_ok(t: &[u16], h: Head, lits: &[u8], g: usize, i: usize) -> bool
+    requires { ⌜ (g < 65536) × (i < 1048576) ⌝ }
+    ensures { λ r. ⌜ r ≡ sourceOk h (now (t .entry)) (now (lits .entry)) g i ⌝ }
+{
+    let width = tables::item_num(t, h, i, 1);
+    let kind = tables::item_num(t, h, i, 2);
+    let index = tables::item_num(t, h, i, 3);
+    match kind {
+        0 => index + width <= lits.len(),
+        1 => field_item_ok(t, h, g, index),
+        4 => (index < tables::wide(h.counters)) & (tables::counter_num(t, h, index, 0) == g),
+        _ => (2 <= kind) & (kind <= 3) & (index == 0),
+    }
+}
+
+// An item's decimals: at most 4, fewer than its width, none but for numbers.
+fn decimals_ok(t: &[u16], h: Head, i: usize) -> bool
+    requires { ⌜ i < 1048576 ⌝ }
+    ensures { λ r. ⌜ r ≡ decimalsOk h (now (t .entry)) i ⌝ }
+{
+    let width = tables::item_num(t, h, i, 1);
+    let kind = tables::item_num(t, h, i, 2);
+    let index = tables::item_num(t, h, i, 3);
+    let decimals = tables::item_num(t, h, i, 4);
+    let number = (kind == 4) | (kind == 1) & (tables::field_num(t, index, 0) == 1);
+    (decimals <= 4) & (decimals < width) & ((decimals == 0) | number)
+}
+
+// An item's indicate flag: set only in a detail.
+fn flag_ok(t: &[u16], h: Head, g: usize, i: usize) -> bool
+    requires { ⌜ (g < 65536) × (i < 1048576) ⌝ }
+    ensures { λ r. ⌜ r ≡ flagOk h (now (t .entry)) g i ⌝ }
+{
+    let flag = tables::item_num(t, h, i, 5);
+    (flag == 0) | (flag == 1) & (tables::group_num(t, h, g, 0) == 3)
+}
+
+// What an item shows, wherever it stands on the line.
+fn shown_ok(t: &[u16], h: Head, lits: &[u8], g: usize, i: usize) -> bool
+    requires { ⌜ (g < 65536) × (i < 1048576) ⌝ }
+    ensures { λ r. ⌜ r ≡ shownOk h (now (t .entry)) (now (lits .entry)) g i ⌝ }
+{
+    source_ok(t, h, lits, g, i) & decimals_ok(t, h, i) & flag_ok(t, h, g, i)
+}
+
+// An item begins at a free column and ends inside the line.
+fn place_ok(h: Head, free: usize, column: usize, width: usize) -> bool
+    requires { ⌜ (column < 65536) × (width < 65536) ⌝ }
+    ensures { λ r. ⌜ r ≡ placeOk h free column width ⌝ }
+{
+    (free <= column) & (1 <= width) & (column + width <= tables::wide(h.width) + 1)
+}
+
+// Every item of line `l`; `free` is the first column that the next item may take.
+fn line_items_ok(t: &[u16], h: Head, lits: &[u8], g: usize, l: usize) -> bool
+    requires { ⌜ (g < 65536) × (l < 1048576) ⌝ }
+    ensures { λ r. ⌜ r ≡ lineItemsOk h (now (t .entry)) (now (lits .entry)) g l ⌝ }
+{
+    let first = tables::line_num(t, h, l, 2);
+    let n = tables::line_num(t, h, l, 3);
+    let mut ok = true;
+    let mut free = 1;
+    let mut m = 0;
+    while m < n {
+        let i = first + m;
+        let column = tables::item_num(t, h, i, 0);
+        let width = tables::item_num(t, h, i, 1);
+        let placed = place_ok(h, free, column, width);
+        let shown = shown_ok(t, h, lits, g, i);
+        ok = ok & (placed & shown);
+        free = column + width;
+        m += 1;
+    }
+    ok
+}
+
+// Every item of a group.
+fn group_items_ok(t: &[u16], h: Head, lits: &[u8], g: usize) -> bool
+    requires { ⌜ g < 65536 ⌝ }
+    ensures { λ r. ⌜ r ≡ groupItemsOk h (now (t .entry)) (now (lits .entry)) g ⌝ }
+{
+    let first = tables::group_num(t, h, g, 2);
+    let n = tables::group_num(t, h, g, 3);
+    let mut ok = true;
+    let mut k = 0;
+    while k < n {
+        let this = line_items_ok(t, h, lits, g, first + k);
+        ok = ok & this;
+        k += 1;
+    }
+    ok
+}
+
+// Every item of every group.
+fn all_items_ok(t: &[u16], h: Head, lits: &[u8]) -> bool
+    ensures { λ r. ⌜ r ≡ allBelow (h .groups) (groupItemsOk h (now (t .entry)) (now (lits .entry))) ⌝ }
+{
+    let n = tables::wide(h.groups);
+    let mut ok = true;
+    let mut g = 0;
+    while g < n {
+        let this = group_items_ok(t, h, lits, g);
+        ok = ok & this;
+        g += 1;
+    }
+    ok
+}
+
+// Every literal byte is 32 to 126.
+fn literals_ok(lits: &[u8]) -> bool
+    ensures { λ r. ⌜ r ≡ allBelow (length (now (lits .entry))) (literalOk (now (lits .entry))) ⌝ }
+{
+    let mut ok = true;
+    let mut k = 0;
+    while k < lits.len() {
+        let b = lits[k];
+        let this = (32 <= b) & (b <= 126);
+        ok = ok & this;
+        k += 1;
+    }
+    ok
+}
+
+// D7. After D5 and D6 the loops turn once for each line and item.
+pub fn rule_d7(t: &[u16], h: Head, lits: &[u8]) -> Kept
+    ensures { λ r. ⌜ r ≡ kept (ruleD7 h (now (t .entry)) (now (lits .entry))) ⌝ }
+{
+    let items = all_items_ok(t, h, lits);
+    file::answer(items & literals_ok(lits))
+}

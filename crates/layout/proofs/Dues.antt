@@ -1,0 +1,41 @@
+-- The groups due, by what the functions answer that find them and place them. Assumes nothing.
+use mathlib.Core.Path.{_≡_, refl}
+use mathlib.Core.Bool.{Bool, true, false}
+use mathlib.Core.List.{List, _++_}
+use Prim.Native.Nat.{ℕ, _+_}
+use Rattle.tables.specs.declared.Head.{Head}
+use Rattle.fits.specs.Starts.{aboveHead, headEnd, footEnd}
+use Rattle.plan.specs.declared.Turn.{Turn}
+use Rattle.layout.specs.declared.Pos.{Pos}
+use Rattle.layout.specs.declared.Placed.{Placed}
+use Rattle.layout.specs.declared.Start.{Start}
+use Rattle.layout.specs.Layout.{dueOf, pageChange, pageChanges, placed, placeGroup, opening, closing}
+use Rattle.layout.specs.Facts.{startAt}
+use Rattle.layout.proofs.Steps.{group-page}
+
+module _ (h : Head) (t : List ℕ) where
+  -- a turn: its page changes, and the group on the page that they reach
+  pub group-dues : (d : Turn) (s : Pos) (r : Placed) → r ≡ placed h t d s
+      → placeGroup h t d s .dues ≡ pageChanges h t (d .kept) (r .changes) (s .page) ++ dueOf h t (d .group) (d .kept) (r .to .page) (r .at) (r .changes)
+  unfolding placeGroup
+  group-dues d s r e = rw (e, group-page h t d s) refl
+
+  pub group-to : (d : Turn) (s : Pos) (r : Placed) → r ≡ placed h t d s → placeGroup h t d s .to ≡ r .to
+  unfolding placeGroup
+  group-to d s r e = rw e refl
+
+  -- a page change: PF, and PH on the next page
+  pub change-dues : (kept : Bool) (page : ℕ) (pf ph : Start) → pf ≡ startAt h t (h .ft) 5 → ph ≡ startAt h t (aboveHead h) 1
+      → pageChange h t kept page ≡ dueOf h t (pf .group) kept page (pf .at) 0 ++ dueOf h t (ph .group) kept (page + 1) (ph .at) 0
+  unfolding pageChange
+  change-dues kept page pf ph e f = rw (e, f) refl
+
+  pub opening-dues : (rh ph : Start) → rh ≡ startAt h t (aboveHead h) 0 → ph ≡ startAt h t (headEnd h t) 1
+      → opening h t .dues ≡ dueOf h t (rh .group) false 1 (rh .at) 0 ++ dueOf h t (ph .group) false 1 (ph .at) 0
+  unfolding opening
+  opening-dues rh ph e f = rw (e, f) refl
+
+  pub closing-dues : (s : Pos) (pf rf : Start) (r : Pos) → pf ≡ startAt h t (h .ft) 5 → rf ≡ startAt h t (footEnd h t) 6 → r ≡ closing h t s .to
+      → closing h t s .dues ≡ dueOf h t (pf .group) true (s .page) (pf .at) 0 ++ dueOf h t (rf .group) true (r .page) (rf .at) 0
+  unfolding closing
+  closing-dues s pf rf r e f g = rw (e, f, g) refl

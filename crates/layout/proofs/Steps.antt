@@ -1,0 +1,91 @@
+-- A layout group by group: one turn and the others, one page change and the others, the body groups between the opening and the closing.
+--     place-append, place-step, place-end     the layout of a list of turns
+--     change-step, change-end                 page changes
+--     group-changes, group-page, group-near   how many a turn makes, and its page
+--     place-page                              the page that a list of turns reaches at most
+--     layout-dues, layout-to                  a call's layout in its three parts
+-- Assumes nothing.
+use mathlib.Core.Path.{_≡_, refl, sym, ap}
+use mathlib.Core.Bool.{Bool}
+use mathlib.Core.List.{List, [], _∷_, _++_, append-assoc}
+use Prim.Native.Nat.{ℕ, zero, suc, _+_, _*_, _-_, _≤_, _<_}
+use native.Mathlib.Numerals.{sub-one}
+use native.Mathlib.Omega.{arith}
+use lib.ListN.{length}
+use Rattle.counts.proofs.Laws.{by-cond}
+use Rattle.tables.specs.declared.Head.{Head}
+use Rattle.fits.specs.Starts.{present}
+use Rattle.place.proofs.Within.{at-most-two}
+use Rattle.shape.specs.Shape.{bodyOf, frameOf}
+use Rattle.plan.specs.declared.Turn.{Turn}
+use Rattle.plan.specs.declared.Plan.{Plan}
+use Rattle.plan.specs.Plan.{turns}
+use Rattle.layout.specs.declared.Pos.{Pos}
+use Rattle.layout.specs.declared.Placed.{Placed}
+use Rattle.layout.specs.Layout.{Due, pageChange, pageChanges, placedLines, placed, placeGroup, after, placeAll, opened, closed, layout}
+
+module _ (h : Head) (t : List ℕ) where
+  -- turns one after the other
+  pub place-append : (ds es : List Turn) (s : Pos) → placeAll h t (ds ++ es) s ≡ after (placeAll h t ds s) (placeAll h t es (placeAll h t ds s .to))
+  unfolding placeAll
+  place-append [] es s = refl
+  place-append (d ∷ ds) es s =
+      rw (place-append ds es (placeGroup h t d s .to))
+      (ap (λ (us : List Due). record { dues = us; to = placeAll h t es (placeAll h t ds (placeGroup h t d s .to) .to) .to }) (sym (append-assoc (placeGroup h t d s .dues) _ _)))
+
+  pub place-step : (ds es : List Turn) (d : Turn) (s : Pos) → ds ≡ d ∷ es → placeAll h t ds s ≡ after (placeGroup h t d s) (placeAll h t es (placeGroup h t d s .to))
+  unfolding placeAll
+  place-step ds es d s e = rw e refl
+
+  pub place-end : (ds : List Turn) (s : Pos) → ds ≡ [] → placeAll h t ds s ≡ record { dues = []; to = s }
+  unfolding placeAll
+  place-end ds s e = rw e refl
+
+  -- page changes one after the other
+  pub change-step : (kept : Bool) (n page : ℕ) → 0 < n → pageChanges h t kept n page ≡ pageChange h t kept page ++ pageChanges h t kept (n - 1) (page + 1)
+  unfolding pageChanges
+  change-step kept zero page l = absurd (omega arith)
+  change-step kept (suc n) page l = rw sub-one refl
+
+  pub change-end : (kept : Bool) (n page : ℕ) → n ≤ 0 → pageChanges h t kept n page ≡ []
+  unfolding pageChanges
+  change-end kept zero page l = refl
+  change-end kept (suc n) page l = absurd (omega arith)
+
+  -- a turn makes at most two page changes, and ends on the page that they reach
+  pub group-changes : (d : Turn) (s : Pos) → placed h t d s .changes ≤ 2
+  unfolding placed placedLines
+  group-changes d s =
+      by-cond (λ (r : Placed). r .changes ≤ 2) (present h t (d .group))
+      (λ e. at-most-two (frameOf h t) (bodyOf h t (d .group)) (s .spot))
+      (λ e. omega arith)
+
+  pub group-page : (d : Turn) (s : Pos) → placed h t d s .to .page ≡ s .page + placed h t d s .changes
+  unfolding placed placedLines
+  group-page d s = by-cond (λ (r : Placed). r .to .page ≡ s .page + r .changes) (present h t (d .group)) (λ e. refl) (λ e. omega arith)
+
+  pub group-near : (d : Turn) (s : Pos) → placeGroup h t d s .to .page ≤ s .page + 2
+  unfolding placeGroup
+  group-near d s = omega (arith, group-page d s, group-changes d s)
+
+  pub place-page : (ds : List Turn) (s : Pos) → placeAll h t ds s .to .page ≤ s .page + 2 * length ds
+  unfolding placeAll
+  place-page [] s = omega arith
+  place-page (d ∷ ds) s = let n = group-near d s in let e = place-page ds (placeGroup h t d s .to) in omega arith
+
+  module _ (opens : Bool) (p : Plan) (closes : Bool) (s : Pos) where
+    -- the place after the opening, and after the body groups
+    abbrev pub afterOpening : Pos
+    afterOpening = opened h t opens s .to
+
+    abbrev pub afterBody : Pos
+    afterBody = placeAll h t (turns h t p) afterOpening .to
+
+    pub layout-dues : layout h t opens p closes s .dues
+        ≡ opened h t opens s .dues ++ (placeAll h t (turns h t p) afterOpening .dues ++ closed h t closes afterBody .dues)
+    unfolding layout
+    layout-dues = refl
+
+    pub layout-to : layout h t opens p closes s .to ≡ closed h t closes afterBody .to
+    unfolding layout
+    layout-to = refl

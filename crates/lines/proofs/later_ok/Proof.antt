@@ -1,0 +1,34 @@
+-- `lines::later_ok` meets its contract. The invariant: the flag is the test of every later line passed.
+-- Assumes nothing.
+use Prim.Native.Nat.{_≤_, _-_}
+use mathlib.Core.Path.{_≡_}
+use native.Mathlib.Omega.{arith}
+use borrow.Author.Needs.{needs}
+use Rattle.counts.specs.Below.{allBelow}
+use Rattle.counts.proofs.Laws.{all-next}
+use Rattle.lines.specs.Lines.{laterOk}
+use Rattle.lines.proofs.later_ok.Statement.{statement}
+use Rattle.lines.proofs.later_ok.Tie as tie
+
+abbrev Inv-loop : tie.InvT-loop
+Inv-loop t h i n second ok₀ k₀ ok k = (k ≤ n) × (ok ≡ allBelow k (laterOk h t i))
+
+abbrev μ-loop : tie.MeasureT-loop
+μ-loop t h i n second ok₀ k₀ ok k = n - k
+
+loop-holds : tie.Need-loop-holds Inv-loop μ-loop
+unfolding allBelow
+loop-holds c = search needs
+
+loop-again : tie.Need-loop-again Inv-loop μ-loop
+loop-again c = (omega arith, all-next _ _ (c .before .before .loop .inv .1) (cc))
+
+returns : tie.Need-returns Inv-loop μ-loop
+returns c =
+    let e : c .before .loop .k ≡ c .before .before .before .later-of .result = omega arith in
+    cc
+
+pub later-ok-spec : {M : Type 1} → statement M
+later-ok-spec =
+    tie.close
+    (tie.spec Inv-loop μ-loop (λ c κs. omega arith) (λ c κs. omega arith) (λ c. omega arith) loop-holds (λ c. omega arith) (λ c κs. omega arith) (λ c. omega arith) (λ c. omega arith) loop-again returns)

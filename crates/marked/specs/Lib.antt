@@ -1,0 +1,2 @@
+-- "Marked cases (proved together)".
+pub mod Marked

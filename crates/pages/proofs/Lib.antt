@@ -1,0 +1,5 @@
+-- The laws of printing: the bytes of the groups due, one print behind the other, the turns of a plan, and a call's answers.
+pub mod Bytes
+pub mod Prints
+pub mod Turns
+pub mod Answers

@@ -1,0 +1,4 @@
+-- What a call prints.
+pub mod Bytes
+pub mod Outcome
+pub mod Facts

@@ -1,0 +1,6 @@
+-- What is claimed of a layout.
+pub mod All
+pub mod Rising
+pub mod Parts
+pub mod Facts
+pub mod Claims

@@ -1,0 +1,5 @@
+-- The calls.
+pub mod State
+pub mod Verdict
+pub mod Result
+pub mod Calls

@@ -1,0 +1,19 @@
+-- `shape::head_line` meets its contract: each part read is the page heading's. Assumes nothing.
+use borrow.Author.Needs.{needs}
+use Rattle.shape.specs.Shape.{headLine}
+use Rattle.shape.proofs.head_line.Statement.{statement}
+use Rattle.shape.proofs.head_line.Tie as tie
+
+pub head-line-spec : {M : Type 1} → statement M
+unfolding headLine
+head-line-spec =
+    tie.close
+    (tie.spec
+    (λ c κs. search needs)
+    (λ c κs. search needs)
+    (λ c κs. search needs)
+    (λ c κs. search needs)
+    (λ c κs. search needs)
+    (λ c. search needs)
+    (λ c κs. search needs)
+    (λ c. cc))

@@ -1,0 +1,14 @@
+-- `state::beyond_ok` meets its contract: the tests begin where the description's counters and details end.
+-- Assumes nothing.
+use borrow.Author.Needs.{needs}
+use Rattle.state.specs.Rules.{beyondOk}
+use Rattle.state.proofs.beyond_ok.Statement.{statement}
+use Rattle.state.proofs.beyond_ok.Tie as tie
+
+returns : tie.Need-returns
+unfolding beyondOk
+returns c = cc
+
+pub beyond-ok-spec : {M : Type 1} → statement M
+beyond-ok-spec =
+    tie.close (tie.spec (λ c κs. search needs) (λ c κs. search needs) (λ c κs. search needs) (λ c κs. search needs) returns)

@@ -1,0 +1,14 @@
+-- `state::fresh_ok` meets its contract: the tests are the definition's.
+-- Assumes nothing.
+use borrow.Author.Needs.{needs}
+use Rattle.state.specs.Rules.{freshOk}
+use Rattle.state.proofs.fresh_ok.Statement.{statement}
+use Rattle.state.proofs.fresh_ok.Tie as tie
+
+returns : tie.Need-returns
+unfolding freshOk
+returns c = cc
+
+pub fresh-ok-spec : {M : Type 1} → statement M
+fresh-ok-spec =
+    tie.close (tie.spec (λ c κs. search needs) (λ c κs. search needs) (λ c κs. search needs) returns)

@@ -1,0 +1,13 @@
+-- `state::ranges_ok` meets its contract: the tests are the definition's.
+-- Assumes nothing.
+use borrow.Author.Needs.{needs}
+use Rattle.state.specs.Rules.{rangesOk}
+use Rattle.state.proofs.ranges_ok.Statement.{statement}
+use Rattle.state.proofs.ranges_ok.Tie as tie
+
+returns : tie.Need-returns
+unfolding rangesOk
+returns c = cc
+
+pub ranges-ok-spec : {M : Type 1} → statement M
+ranges-ok-spec = tie.close (tie.spec (λ c κs. search needs) returns)

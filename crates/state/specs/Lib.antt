@@ -1,0 +1,4 @@
+-- The rules of a report's state.
+pub mod Rules
+pub mod Kept
+pub mod Facts
