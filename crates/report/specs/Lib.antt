@@ -3,3 +3,4 @@ pub mod State
 pub mod Verdict
 pub mod Result
 pub mod Calls
+pub mod Facts
