@@ -7,7 +7,7 @@ use mathlib.Core.List.{List, [], _∷_, _++_}
 use mathlib.Core.Logic.{_⊎_, inl, inr, ⊎-elim}
 use mathlib.Core.Option.{Option, none, some}
 use native.Mathlib.Omega.{arith}
-use borrow.Author.Tests.{ltb-true, ltb-false, eqb-true, eqb-false, lt-ltb}
+use borrow.Author.Tests.{ltb-true, ltb-false, eqb-true, eqb-false, lt-ltb, not-false}
 use lib.Dec.{ltb, eqb}
 use lib.IntN.{ℤ, pos}
 use lib.ListN.{length, take, getD, set}
@@ -267,10 +267,6 @@ module _ (d : List ℕ) (accepts : checked d ≡ Accepted) (A : facts.Accepted (
 
     no-ok : (c : Call) (reading : Inputs) (v : Verdict) → 3 ≤ number v → number v ≤ 9 → eqb (number v) 0 ≡ false → Ok d Tracks b c reading (refuse s out v)
     no-ok c reading v l m e = refused-ok d Tracks b c reading s out T v l m e
-
-    not-false : (x : Bool) → not x ≡ false → x ≡ true
-    not-false true e = refl
-    not-false false e = sym e
 
     pub generate-ok : (i : ℕ) (row : List ℕ) → Ok d Tracks b (generate i row) (reads d s (generate i row)) (answer d s (generate i row) out)
     unfolding calls.generate generatedOn rowTried

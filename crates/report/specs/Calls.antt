@@ -83,7 +83,8 @@ lastWork h t lits s = lastWith h t lits s (totalsLast h t (s .sums))
 unfoldable pub startTried : Head → List ℕ → Report → Tried
 startTried h t s = cond (keeps h t s) (cond (eqb (s .phase) idle) Passed (Refused Phase)) (Refused State)
 
--- refusals 2 to 6
+-- "2 | state breaks its rules below"; "3 | .. GENERATE or TERMINATE when idle"; "4 | d names no detail group"; "5 | record length is not the
+-- described one"; "6 | a field's bytes are malformed", with the "first such field"
 unfoldable pub rowTried : Head → List ℕ → Report → ℕ → List ℕ → Tried
 rowTried h t s d row =
     cond (keeps h t s)
@@ -95,7 +96,7 @@ rowTried h t s d row =
     (Refused Detail)))
     (Refused State)
 
--- "3 | .. TERMINATE when idle"
+-- "3 | .. GENERATE or TERMINATE when idle"
 unfoldable pub endTried : Head → List ℕ → Report → Tried
 endTried h t s = cond (keeps h t s) (cond (eqb (s .phase) idle) (Refused Phase) Passed) (Refused State)
 
@@ -123,7 +124,7 @@ unfoldable pub initiatedOn : Head → List ℕ → Report → List ℕ → Resul
 initiatedOn h t s out = unless s out (begun out) (startTried h t s)
 
 -- ---- the answers, on any bytes
--- refusal 1 first
+-- "1 | description breaks a rule D1 to D8", tried first
 abbrev pub ifAccepted : Checked → Report → List ℕ → Result → Result
 ifAccepted Accepted s out r = r
 ifAccepted (Broken k) s out r = refuse s out (Description k)

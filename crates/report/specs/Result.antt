@@ -73,7 +73,7 @@ answered s next (Done count to) = record { verdict = Accepted; count = count; re
 answered s next PageLimit = refusal s Pages
 answered s next NoRoom = refusal s Room
 
--- 7, then 8, then 9, each over the whole call
+-- "7 | an addition would leave the sum range", over all additions of the call; then 8 and 9, of its whole layout
 unfoldable pub settled : Head → List ℕ → Report → Work → List ℕ → Result
 settled h t s w out =
     cond (w .ok)

@@ -394,7 +394,7 @@ fn last_groups(t: &[u16], h: Head, lits: &[u8], s: Report, out: &mut [u8]) -> An
 }
 
 // GENERATE on the tables of an accepted description.
-pub fn generate_on(
+fn generate_on(
     t: &[u16],
     h: Head,
     lits: &[u8],
@@ -420,7 +420,7 @@ pub fn generate_on(
 }
 
 // TERMINATE on the tables of an accepted description.
-pub fn terminate_on(t: &[u16], h: Head, lits: &[u8], s: Report, out: &mut [u8]) -> Answer
+fn terminate_on(t: &[u16], h: Head, lits: &[u8], s: Report, out: &mut [u8]) -> Answer
     requires { ⌜ Accepted h (now t) (now lits) ⌝ }
     ensures { λ r. ⌜ Returns (terminatedOn h (now (t .entry)) (now (lits .entry)) s (now (out .entry))) r (now (out .exit)) ⌝ }
 {
@@ -442,7 +442,7 @@ pub fn terminate_on(t: &[u16], h: Head, lits: &[u8], s: Report, out: &mut [u8]) 
 }
 
 // INITIATE on the tables of an accepted description.
-pub fn initiate_on(t: &[u16], h: Head, s: Report) -> Answer
+fn initiate_on(t: &[u16], h: Head, s: Report) -> Answer
     requires { ⌜ FieldsIn h (now t) × (h .reclen ≤ 256) ⌝ }
     ensures { λ r. ⌜ r ≡ initiatedOn h (now (t .entry)) s [] .answer ⌝ }
 {
