@@ -1,7 +1,16 @@
-//! Links the static library that `rt staticlib report_c` writes.
+//! Links the static library that `rt staticlib report_c` writes; BAILCURLEW_STATICLIB names another folder.
+use std::path::Path;
+
+const FOLDER: &str = "BAILCURLEW_STATICLIB";
+
 fn main() {
     let root = std::env::var("CARGO_MANIFEST_DIR").expect("cargo sets it");
-    println!("cargo:rustc-link-search=native={root}/../target/staticlib");
+    let default = Path::new(&root).join("../target/staticlib").display().to_string();
+    let folder = std::env::var(FOLDER).unwrap_or(default);
+    println!("cargo:rustc-link-search=native={folder}");
     println!("cargo:rustc-link-lib=static=report_c");
-    println!("cargo:rerun-if-changed={root}/../target/staticlib/libreport_c.a");
+    // The test of the C header links it too.
+    println!("cargo:rustc-env={FOLDER}={folder}");
+    println!("cargo:rerun-if-env-changed={FOLDER}");
+    println!("cargo:rerun-if-changed={folder}/libreport_c.a");
 }

@@ -2,58 +2,64 @@
 ghost use mathlib.Core.Path.{_≡_};
 ghost use mathlib.Core.Bool.{true};
 ghost use Prim.Native.Nat.{_≤_};
-ghost use Rattle.sums.specs.Sums.{sumsOk};
-ghost use Rattle.sums.specs.Facts.{CountersIn, InRange, Adding};
+ghost use Rattle.sums.specs.Sums.{totals, sumsOk};
+ghost use Rattle.sums.specs.Facts.{CountersIn, Adding};
 ghost use Rattle.amounts.specs.Totals.{footingAt, footings as footingsSpec, fresh as freshSpec, settled as settledSpec, totalsFirst, totalsLater, totalsLast};
 use sums::Totals;
 use tables::Head;
 
-// The footing of a level, where there is one.
-fn footing_at(t: &[u16], h: Head, b: usize, level: usize, acc: Totals) -> Totals
-    requires { ⌜ CountersIn h (now t) × InRange acc ⌝ }
-    ensures { λ r. ⌜ r ≡ footingAt h (now (t .entry)) b level acc ⌝ }
+// The footing of a level, where there is one. Here and below: whether no addition was refused, with the sums and what is shown in their place.
+fn footing_at(
+    t: &[u16],
+    h: Head,
+    b: usize,
+    level: usize,
+    ok: bool,
+    sums: &mut [i64; 32],
+    shown: &mut [i64; 32],
+) -> bool
+    requires { ⌜ CountersIn h (now t) × (sumsOk (now sums) ≡ true) ⌝ }
+    ensures { λ r. ⌜ totals r (now (sums .exit)) (now (shown .exit)) ≡ footingAt h (now (t .entry)) b level (totals ok (now (sums .entry)) (now (shown .entry))) ⌝ }
 {
     let g = lookup::find(t, h, 4, level);
     let n = tables::wide(h.groups);
     if g < n {
-        footing::footing(t, h, g, b, acc)
-    } else {
-        acc
+        return footing::footing(t, h, g, b, ok, sums, shown);
     }
+    ok
 }
 
 // The footings from the junior end up to level `b`.
-fn footings(t: &[u16], h: Head, b: usize, start: Totals) -> Totals
-    requires { ⌜ (CountersIn h (now t) × InRange start) × (b ≤ h .controls) ⌝ }
-    ensures { λ r. ⌜ r ≡ footingsSpec h (now (t .entry)) b start ⌝ }
+fn footings(
+    t: &[u16],
+    h: Head,
+    b: usize,
+    ok: bool,
+    sums: &mut [i64; 32],
+    shown: &mut [i64; 32],
+) -> bool
+    requires { ⌜ (CountersIn h (now t) × (sumsOk (now sums) ≡ true)) × (b ≤ h .controls) ⌝ }
+    ensures { λ r. ⌜ totals r (now (sums .exit)) (now (shown .exit)) ≡ footingsSpec h (now (t .entry)) b (totals ok (now (sums .entry)) (now (shown .entry))) ⌝ }
 {
     let mut level = tables::wide(h.controls);
-    let mut acc = start;
+    let mut good = ok;
     while b < level {
         level -= 1;
-        acc = footing_at(t, h, b, level, acc);
+        good = footing_at(t, h, b, level, good, sums, shown);
     }
-    acc
-}
-
-// A copy of the sums, to add to.
-fn fresh(old: [i64; 32]) -> Totals
-    ensures { λ r. ⌜ r ≡ freshSpec old ⌝ }
-{
-    Totals {
-        ok: true,
-        sums: old,
-        shown: old,
-    }
+    good
 }
 
 // The new sums, or the old ones where an addition was refused.
-fn settled(old: [i64; 32], r: Totals) -> Totals
-    ensures { λ s. ⌜ s ≡ settledSpec old r ⌝ }
+fn settled(old: [i64; 32], ok: bool, sums: [i64; 32], shown: [i64; 32]) -> Totals
+    ensures { λ s. ⌜ s ≡ settledSpec old (totals ok sums shown) ⌝ }
 {
-    let ok = r.ok;
     if ok {
-        r
+        Totals {
+            ok: true,
+            sums,
+            shown,
+        }
     } else {
         Totals {
             ok: false,
@@ -68,7 +74,9 @@ pub fn totals_first(t: &[u16], h: Head, row: &[u8], d: usize, old: [i64; 32]) ->
     requires { ⌜ Adding h (now t) (now row) d (freshSpec old) ⌝ }
     ensures { λ r. ⌜ r ≡ totalsFirst h (now (t .entry)) (now (row .entry)) d old ⌝ }
 {
-    settled(old, sums::subtotal(t, h, row, d, fresh(old)))
+    let mut sums = old;
+    let ok = sums::subtotal(t, h, row, d, true, &mut sums);
+    settled(old, ok, sums, old)
 }
 
 // The totals of a later GENERATE with a break at level `b`; none where that is the number of controls.
@@ -76,8 +84,11 @@ pub fn totals_later(t: &[u16], h: Head, row: &[u8], d: usize, b: usize, old: [i6
     requires { ⌜ Adding h (now t) (now row) d (freshSpec old) × (b ≤ h .controls) ⌝ }
     ensures { λ r. ⌜ r ≡ totalsLater h (now (t .entry)) (now (row .entry)) d b old ⌝ }
 {
-    let footed = footings(t, h, b, fresh(old));
-    settled(old, sums::subtotal(t, h, row, d, footed))
+    let mut sums = old;
+    let mut shown = old;
+    let footed = footings(t, h, b, true, &mut sums, &mut shown);
+    let ok = sums::subtotal(t, h, row, d, footed, &mut sums);
+    settled(old, ok, sums, shown)
 }
 
 // The totals of TERMINATE.
@@ -85,5 +96,8 @@ pub fn totals_last(t: &[u16], h: Head, old: [i64; 32]) -> Totals
     requires { ⌜ CountersIn h (now t) × (sumsOk old ≡ true) ⌝ }
     ensures { λ r. ⌜ r ≡ totalsLast h (now (t .entry)) old ⌝ }
 {
-    settled(old, footings(t, h, 0, fresh(old)))
+    let mut sums = old;
+    let mut shown = old;
+    let ok = footings(t, h, 0, true, &mut sums, &mut shown);
+    settled(old, ok, sums, shown)
 }

@@ -100,6 +100,10 @@ fn addends_ok(t: &[u16], h: Head, d: usize, k: usize) -> bool
     if !few {
         return false;
     }
+    // One addend is the common case, and like no other.
+    if n == 1 {
+        return addend_ok(t, h, d, k, first);
+    }
     let mut ok = true;
     let mut j = 0;
     while j < n {

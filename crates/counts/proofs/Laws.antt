@@ -130,18 +130,18 @@ fold-next f i a e h = rw (add-one, ← e) h
 
 -- lists made of f
 
-length-listBelow : (n : ℕ) (f : ℕ → ℕ) → length (listBelow n f) ≡ n
+pub length-listBelow : {A : Type 0} (n : ℕ) (f : ℕ → A) → length (listBelow n f) ≡ n
 unfolding listBelow
 length-listBelow zero f = refl
 length-listBelow (suc n) f = ap suc (length-listBelow n (λ k. f (suc k)))
 
-pub list-at : (n : ℕ) (f : ℕ → ℕ) (k : ℕ) → k < n → getD (listBelow n f) k 0 ≡ f k
+pub list-at : {A : Type 0} (x : A) (n : ℕ) (f : ℕ → A) (k : ℕ) → k < n → getD (listBelow n f) k x ≡ f k
 unfolding listBelow
-list-at zero f k h = absurd (not-suc-le-zero h)
-list-at (suc n) f zero h = refl
-list-at (suc n) f (suc k) h = list-at n (λ i. f (suc i)) k (le-of-suc-le-suc h)
+list-at x zero f k h = absurd (not-suc-le-zero h)
+list-at x (suc n) f zero h = refl
+list-at x (suc n) f (suc k) h = list-at x n (λ i. f (suc i)) k (le-of-suc-le-suc h)
 
-pub list-filled : (f : ℕ → ℕ) (n : ℕ) (t : List ℕ) → length t ≡ n → ((k : ℕ) → k < n → getD t k 0 ≡ f k) → t ≡ listBelow n f
-list-filled f n t l h =
-    ext-getD 0 t (listBelow n f) (l ∙ sym (length-listBelow n f))
-    (λ k b. let b' : k < n = omega arith in h k b' ∙ sym (list-at n f k b'))
+pub list-filled : {A : Type 0} (x : A) (f : ℕ → A) (n : ℕ) (t : List A) → length t ≡ n → ((k : ℕ) → k < n → getD t k x ≡ f k) → t ≡ listBelow n f
+list-filled x f n t l h =
+    ext-getD x t (listBelow n f) (l ∙ sym (length-listBelow n f))
+    (λ k b. let b' : k < n = omega arith in h k b' ∙ sym (list-at x n f k b'))

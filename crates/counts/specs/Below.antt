@@ -29,6 +29,6 @@ foldBelow zero f a = a
 foldBelow (suc n) f a = f n (foldBelow n f a)
 
 -- f at 0, 1, .. n - 1
-unfoldable pub listBelow : ℕ → (ℕ → ℕ) → List ℕ
+unfoldable pub listBelow : {A : Type 0} → ℕ → (ℕ → A) → List A
 listBelow zero f = []
 listBelow (suc n) f = f 0 ∷ listBelow n (λ k. f (suc k))

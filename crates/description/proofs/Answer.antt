@@ -1,17 +1,17 @@
 -- What CHECK's answer says: the first broken rule is at most 8, and the literals of a description that keeps D1 lie inside it.
 -- Assumes nothing.
-use Prim.Native.Nat.{ℕ, zero, suc, _+_, _*_, _≤_}
+use Prim.Native.Nat.{ℕ, _+_, _*_, _≤_}
 use mathlib.Core.Path.{_≡_, refl, ap}
 use mathlib.Core.Bool.{Bool, true, false}
 use mathlib.Core.List.{List}
 use native.Mathlib.Omega.{arith}
-use lib.ListN.{length}
+use lib.ListN.{length, take, replicate, length-replicate}
+use lib.Seq.{length-take-le}
 use Rattle.file.specs.Sections.{ruleD1}
 use Rattle.tables.specs.declared.Head.{Head}
 use Rattle.tables.specs.Head.{headOf}
-use Rattle.counts.specs.Below.{listBelow}
-use Rattle.tables.specs.Table.{slot, table, literals}
-use Rattle.tables.proofs.Says.{ends}
+use Rattle.tables.specs.Table.{table, literals}
+use Rattle.tables.proofs.Says.{ends, long}
 use Rattle.fields.specs.Page.{ruleD2}
 use Rattle.fields.specs.Fields.{ruleD3}
 use Rattle.fields.specs.Controls.{ruleD4}
@@ -66,14 +66,8 @@ d1-kept d e = rw e refl
 
 -- "literals ending at the trailer"
 pub literals-in : (d : List ℕ) → ruleD1 d ≡ true → LiteralsIn d
-literals-in d e = let z = ends d e 7 (omega arith) in omega arith
+literals-in d e = let l = long d e in let z = ends d e 7 (omega arith) in (l, omega arith)
 
--- the table has its full length
-length-list : (n : ℕ) (f : ℕ → ℕ) → length (listBelow n f) ≡ n
-unfolding listBelow
-length-list zero f = refl
-length-list (suc n) f = ap suc (length-list n (λ k. f (suc k)))
-
-pub length-table : (d : List ℕ) → length (table d) ≡ 4392
-unfolding table
-length-table d = length-list 4392 (slot d)
+-- the front of an array that is lent for the table
+pub front : (n m x : ℕ) → n ≤ m → length (take n (replicate m x)) ≡ n
+front n m x l = length-take-le n (replicate m x) (rw (length-replicate m x) l)

@@ -4,6 +4,6 @@ use mathlib.Core.List.{List}
 use lib.ListN.{length}
 use Rattle.file.specs.Trailer.{start, count}
 
--- the literal bytes lie inside the file
+-- the trailer and the literal bytes lie inside the file
 abbrev pub LiteralsIn : List ℕ → Type 0
-LiteralsIn d = start d 7 + count d 7 ≤ length d
+LiteralsIn d = (48 ≤ length d) × (start d 7 + count d 7 ≤ length d)

@@ -2,7 +2,10 @@
 ghost use mathlib.Core.Path.{_≡_};
 ghost use Rattle.description.specs.Check.{checked, judged};
 ghost use Rattle.description.specs.Refusal.{Answers};
-ghost use Rattle.tables.specs.Table.{literals};
+ghost use mathlib.Core.Bool.{true};
+ghost use lib.ListN.{length};
+ghost use Rattle.file.specs.Sections.{ruleD1};
+ghost use Rattle.tables.specs.Table.{numbers, literals};
 ghost use Rattle.description.specs.Facts.{LiteralsIn};
 use file::Kept;
 use tables::Head;
@@ -51,6 +54,15 @@ pub fn literals_of(d: &[u8]) -> &[u8]
     &d[start..end]
 }
 
+// D2 to D8 of a description that keeps D1, in a table that has just room for its numbers.
+fn check_in(d: &[u8], t: &mut [u16]) -> Checked
+    requires { ⌜ (ruleD1 (now d) ≡ true) × (length (now t) ≡ numbers (now d)) ⌝ }
+    ensures { λ r. ⌜ r ≡ checked (now (d .entry)) ⌝ }
+{
+    tables::unpack(d, t);
+    judge(t, tables::head_of(d), literals_of(d))
+}
+
 // CHECK: any bytes, nothing written.
 pub fn check(d: &[u8]) -> Checked
     ensures { λ r. ⌜ Answers (now (d .entry)) r ⌝ }
@@ -58,7 +70,7 @@ pub fn check(d: &[u8]) -> Checked
     let Kept::Yes = file::rule_d1(d) else {
         return Checked::Broken(1);
     };
-    let mut t = [0u16; 4392];
-    tables::unpack(d, &mut t);
-    judge(&t, tables::head_of(d), literals_of(d))
+    let mut t = [tables::UNSET; 4392];
+    let n = tables::numbers_of(d);
+    check_in(d, &mut t[..n])
 }

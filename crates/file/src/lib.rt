@@ -21,57 +21,47 @@ pub fn answer(ok: bool) -> Kept
     if ok { Kept::Yes } else { Kept::No }
 }
 
-fn wide(x: u8) -> usize
-    ensures { λ r. ⌜ r ≡ x ⌝ }
+// A number, of its low and its high byte.
+pub fn joined(low: u8, high: u8) -> u16
+    ensures { λ r. ⌜ r ≡ low + 256 * high ⌝ }
 {
-    x as usize
+    low as u16 + 256 * high as u16
 }
 
-// A byte, or 0 past the end.
-fn byte_at(d: &[u8], at: usize) -> u8
-    ensures { λ r. ⌜ r ≡ getD (now (d .entry)) at 0 ⌝ }
-{
-    if at < d.len() { d[at] } else { 0 }
-}
-
-// A number: 2 bytes, low byte first.
+// A number: 2 bytes, low byte first. It must lie inside, so that no read is tested.
 pub fn num_at(d: &[u8], at: usize) -> usize
-    requires { ⌜ at < 2 ^ 63 + 2 ^ 40 ⌝ }
+    requires { ⌜ at + 2 ≤ length (now d) ⌝ }
     ensures { λ r. ⌜ Reads (num (now (d .entry)) at) r ⌝ }
 {
-    let low = wide(byte_at(d, at));
-    let high = wide(byte_at(d, at + 1));
-    low + 256 * high
+    joined(d[at], d[at + 1]) as usize
 }
 
 // The version, the last number of the file.
-pub fn version(d: &[u8]) -> usize
+fn version(d: &[u8]) -> usize
+    requires { ⌜ 48 ≤ length (now d) ⌝ }
     ensures { λ r. ⌜ Reads (versionSpec (now (d .entry))) r ⌝ }
 {
-    if 2 <= d.len() {
-        num_at(d, d.len() - 2)
-    } else {
-        num_at(d, 0)
-    }
+    num_at(d, d.len() - 2)
 }
 
-// Where the trailer starts; 0 in a file too short for one.
-pub fn trailer_at(d: &[u8]) -> usize
+// Where the trailer starts.
+fn trailer_at(d: &[u8]) -> usize
+    requires { ⌜ 48 ≤ length (now d) ⌝ }
     ensures { λ r. ⌜ r ≡ trailer (now (d .entry)) ⌝ }
 {
-    if 48 <= d.len() { d.len() - 48 } else { 0 }
+    d.len() - 48
 }
 
 // Start and entry count of section `k`.
 pub fn start_of(d: &[u8], k: usize) -> usize
-    requires { ⌜ k < 64 ⌝ }
+    requires { ⌜ (48 ≤ length (now d)) × (k < 8) ⌝ }
     ensures { λ r. ⌜ Reads (start (now (d .entry)) k) r ⌝ }
 {
     num_at(d, trailer_at(d) + 4 * k)
 }
 
 pub fn count_of(d: &[u8], k: usize) -> usize
-    requires { ⌜ k < 64 ⌝ }
+    requires { ⌜ (48 ≤ length (now d)) × (k < 8) ⌝ }
     ensures { λ r. ⌜ Reads (count (now (d .entry)) k) r ⌝ }
 {
     num_at(d, trailer_at(d) + 4 * k + 2)
@@ -79,7 +69,7 @@ pub fn count_of(d: &[u8], k: usize) -> usize
 
 // P, H, FD, LD, FT, W, R, version.
 pub fn setting_of(d: &[u8], j: usize) -> usize
-    requires { ⌜ j < 64 ⌝ }
+    requires { ⌜ (48 ≤ length (now d)) × (j < 8) ⌝ }
     ensures { λ r. ⌜ Reads (setting (now (d .entry)) j) r ⌝ }
 {
     num_at(d, trailer_at(d) + 32 + 2 * j)
@@ -106,7 +96,7 @@ fn limit_of(k: usize) -> usize
 
 // The byte past section `k`.
 fn end_of(d: &[u8], k: usize) -> usize
-    requires { ⌜ k < 8 ⌝ }
+    requires { ⌜ (48 ≤ length (now d)) × (k < 8) ⌝ }
     ensures { λ r. ⌜ r ≡ sectionEnd (now (d .entry)) k ⌝ }
 {
     start_of(d, k) + count_of(d, k) * size_of(k)
@@ -114,7 +104,7 @@ fn end_of(d: &[u8], k: usize) -> usize
 
 // Where section `k` must end: the start of the next one, or the trailer.
 fn next_start(d: &[u8], k: usize) -> usize
-    requires { ⌜ k < 8 ⌝ }
+    requires { ⌜ (48 ≤ length (now d)) × (k < 8) ⌝ }
     ensures { λ r. ⌜ r ≡ nextStart (now (d .entry)) k ⌝ }
 {
     if k < 7 {
@@ -125,13 +115,14 @@ fn next_start(d: &[u8], k: usize) -> usize
 }
 
 fn section_ok(d: &[u8], k: usize) -> bool
-    requires { ⌜ k < 8 ⌝ }
+    requires { ⌜ (48 ≤ length (now d)) × (k < 8) ⌝ }
     ensures { λ r. ⌜ r ≡ sectionOk (now (d .entry)) k ⌝ }
 {
     (count_of(d, k) <= limit_of(k)) & (end_of(d, k) == next_start(d, k))
 }
 
 fn sections_ok(d: &[u8]) -> bool
+    requires { ⌜ 48 ≤ length (now d) ⌝ }
     ensures { λ r. ⌜ r ≡ allBelow 8 (sectionOk (now (d .entry))) ⌝ }
 {
     let mut ok = true;
@@ -147,5 +138,8 @@ fn sections_ok(d: &[u8]) -> bool
 pub fn rule_d1(d: &[u8]) -> Kept
     ensures { λ r. ⌜ r ≡ kept (ruleD1 (now (d .entry))) ⌝ }
 {
-    answer((48 <= d.len()) & (version(d) == 1) & (start_of(d, 0) == 0) & sections_ok(d))
+    if d.len() < 48 {
+        return answer(false);
+    }
+    answer((version(d) == 1) & (start_of(d, 0) == 0) & sections_ok(d))
 }

@@ -1,8 +1,8 @@
 -- What additions, zeros and shows keep, a footing keeps: range, and what later crates add.
 -- Assumes nothing.
 use Prim.Native.Nat.{ℕ, _<_}
-use mathlib.Core.Path.{refl}
-use mathlib.Core.Bool.{_&&_}
+use mathlib.Core.Path.{_≡_, refl}
+use mathlib.Core.Bool.{Bool, true, _&&_}
 use mathlib.Core.List.{List}
 use lib.Dec.{eqb}
 use lib.IntN.{ℤ, pos}
@@ -10,7 +10,7 @@ use Rattle.counts.proofs.Laws.{by-cond}
 use Rattle.tables.specs.declared.Head.{Head}
 use Rattle.tables.specs.Table.{levelOf, counterGroup}
 use Rattle.sums.specs.declared.Totals.{Totals}
-use Rattle.sums.specs.Sums.{sumAt, put, addAt}
+use Rattle.sums.specs.Sums.{totals, sumsOk, sumAt, put, addAt}
 use Rattle.sums.specs.Facts.{InRange}
 use Rattle.sums.proofs.Folds.{fold-keeps}
 use Rattle.sums.proofs.Range.{sums-set, add-range}
@@ -34,6 +34,10 @@ range-closed n =
       show = λ k acc l r. record { sums = r .sums };
       zero = λ k acc l r. record { sums = sums-set (acc .sums) k (pos 0) refl (r .sums) };
     }
+
+-- work in the place of the sums and of what is shown, that keeps totals in range, keeps them so
+pub work-range : (f : Totals → Totals) {ok ok' : Bool} {sums shown sums' shown' : List ℤ} → ((a : Totals) → InRange a → InRange (f a)) → totals ok' sums' shown' ≡ f (totals ok sums shown) → sumsOk sums ≡ true → sumsOk sums' ≡ true
+work-range f {ok' = ok'} {sums' = sums'} {shown' = shown'} g e r = let z : InRange (totals ok' sums' shown') = rw e (g _ (record { sums = r })) in z .sums
 
 module _ (h : Head) (t : List ℕ) {P : Totals → Type 0} (c : Closed (h .counters) P) where
   pub add-same-keeps : (g k a : ℕ) → k < h .counters → {acc : Totals} → P acc → P (addSame h t g k a acc)

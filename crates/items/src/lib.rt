@@ -4,10 +4,12 @@ ghost use Prim.Native.Nat.{_<_};
 ghost use lib.ListN.{length};
 ghost use Rattle.counts.specs.Below.{allBelow};
 ghost use Rattle.file.specs.Kept.{kept};
+ghost use Rattle.tables.specs.Table.{itemOf};
 ghost use Rattle.items.specs.Sources.{ofControl, fieldItemOk, sourceOk, decimalsOk, flagOk, shownOk};
 ghost use Rattle.items.specs.Items.{placeOk, lineItemsOk, groupItemsOk, literalOk, ruleD7};
 use file::Kept;
 use tables::Head;
+use tables::Item;
 
 // Some control has this field.
 fn of_control(t: &[u16], h: Head, f: usize) -> bool
@@ -36,14 +38,14 @@ fn field_item_ok(t: &[u16], h: Head, g: usize, f: usize) -> bool
     of_control(t, h, f) & there
 }
 
-// An item's index exists, by its source kind.
-fn source_ok(t: &[u16], h: Head, lits: &[u8], g: usize, i: usize) -> bool
-    requires { ⌜ (g < 65536) × (i < 1048576) ⌝ }
+// An item's index exists, by its source kind. Here and below `x` is item `i`, read once.
+fn source_ok(t: &[u16], h: Head, lits: &[u8], g: usize, i: usize, x: Item) -> bool
+    requires { ⌜ (g < 65536) × (x ≡ itemOf h (now t) i) ⌝ }
     ensures { λ r. ⌜ r ≡ sourceOk h (now (t .entry)) (now (lits .entry)) g i ⌝ }
 {
-    let width = tables::item_num(t, h, i, 1);
-    let kind = tables::item_num(t, h, i, 2);
-    let index = tables::item_num(t, h, i, 3);
+    let width = tables::wide(x.width);
+    let kind = tables::wide(x.kind);
+    let index = tables::wide(x.index);
     match kind {
         0 => index + width <= lits.len(),
         1 => field_item_ok(t, h, g, index),
@@ -53,33 +55,39 @@ fn source_ok(t: &[u16], h: Head, lits: &[u8], g: usize, i: usize) -> bool
 }
 
 // An item's decimals: at most 4, fewer than its width, none but for numbers.
-fn decimals_ok(t: &[u16], h: Head, i: usize) -> bool
-    requires { ⌜ i < 1048576 ⌝ }
+fn decimals_ok(t: &[u16], h: Head, i: usize, x: Item) -> bool
+    requires { ⌜ x ≡ itemOf h (now t) i ⌝ }
     ensures { λ r. ⌜ r ≡ decimalsOk h (now (t .entry)) i ⌝ }
 {
-    let width = tables::item_num(t, h, i, 1);
-    let kind = tables::item_num(t, h, i, 2);
-    let index = tables::item_num(t, h, i, 3);
-    let decimals = tables::item_num(t, h, i, 4);
+    let width = tables::wide(x.width);
+    let decimals = tables::wide(x.decimals);
+    if decimals == 0 {
+        return 0 < width;
+    }
+    let kind = tables::wide(x.kind);
+    let index = tables::wide(x.index);
     let number = (kind == 4) | (kind == 1) & (tables::field_num(t, index, 0) == 1);
-    (decimals <= 4) & (decimals < width) & ((decimals == 0) | number)
+    (decimals <= 4) & (decimals < width) & number
 }
 
 // An item's indicate flag: set only in a detail.
-fn flag_ok(t: &[u16], h: Head, g: usize, i: usize) -> bool
-    requires { ⌜ (g < 65536) × (i < 1048576) ⌝ }
+fn flag_ok(t: &[u16], h: Head, g: usize, i: usize, x: Item) -> bool
+    requires { ⌜ (g < 65536) × (x ≡ itemOf h (now t) i) ⌝ }
     ensures { λ r. ⌜ r ≡ flagOk h (now (t .entry)) g i ⌝ }
 {
-    let flag = tables::item_num(t, h, i, 5);
-    (flag == 0) | (flag == 1) & (tables::group_num(t, h, g, 0) == 3)
+    let flag = tables::wide(x.flag);
+    if flag == 0 {
+        return true;
+    }
+    (flag == 1) & (tables::group_num(t, h, g, 0) == 3)
 }
 
 // What an item shows, wherever it stands on the line.
-fn shown_ok(t: &[u16], h: Head, lits: &[u8], g: usize, i: usize) -> bool
-    requires { ⌜ (g < 65536) × (i < 1048576) ⌝ }
+fn shown_ok(t: &[u16], h: Head, lits: &[u8], g: usize, i: usize, x: Item) -> bool
+    requires { ⌜ (g < 65536) × (x ≡ itemOf h (now t) i) ⌝ }
     ensures { λ r. ⌜ r ≡ shownOk h (now (t .entry)) (now (lits .entry)) g i ⌝ }
 {
-    source_ok(t, h, lits, g, i) & decimals_ok(t, h, i) & flag_ok(t, h, g, i)
+    source_ok(t, h, lits, g, i, x) & decimals_ok(t, h, i, x) & flag_ok(t, h, g, i, x)
 }
 
 // An item begins at a free column and ends inside the line.
@@ -102,10 +110,11 @@ fn line_items_ok(t: &[u16], h: Head, lits: &[u8], g: usize, l: usize) -> bool
     let mut m = 0;
     while m < n {
         let i = first + m;
-        let column = tables::item_num(t, h, i, 0);
-        let width = tables::item_num(t, h, i, 1);
+        let x = tables::item_of(t, h, i);
+        let column = tables::wide(x.column);
+        let width = tables::wide(x.width);
         let placed = place_ok(h, free, column, width);
-        let shown = shown_ok(t, h, lits, g, i);
+        let shown = shown_ok(t, h, lits, g, i, x);
         ok = ok & (placed & shown);
         free = column + width;
         m += 1;

@@ -42,6 +42,9 @@ fn group_lines(t: &[u16], h: Head, g: usize, changes: u16) -> usize
     ensures { λ r. ⌜ Bounded 327680 (changes * pairLines h (now (t .entry)) 5 1 + linesDue h (now (t .entry)) g) r ⌝ }
 {
     let own = lines_due(t, h, g);
+    if changes == 0 {
+        return own;
+    }
     let change = pair_lines(t, h, 5, 1);
     changes as usize * change + own
 }

@@ -4,7 +4,8 @@ ghost use mathlib.Core.Bool.{true};
 ghost use mathlib.Core.List.{[]};
 ghost use Prim.Native.Nat.{_≤_, _<_};
 ghost use Rattle.tables.specs.Head.{headOf};
-ghost use Rattle.tables.specs.Table.{table};
+ghost use Rattle.file.specs.Sections.{ruleD1};
+ghost use Rattle.tables.specs.Table.{numbers, table};
 ghost use Rattle.lookup.specs.Find.{theDetail};
 ghost use Rattle.rows.specs.Facts.{FieldsIn};
 ghost use Rattle.compose.specs.Items.{inputs};
@@ -13,6 +14,7 @@ ghost use Rattle.layout.specs.Facts.{Called};
 ghost use Rattle.pages.specs.Facts.{Printable};
 ghost use Rattle.accepted.specs.Accepted.{Accepted};
 ghost use Rattle.report.specs.State.{freshAt, keeps, placeOf};
+ghost use Rattle.report.specs.Verdict.{number, extra};
 ghost use Rattle.report.specs.Result.{refusal as refusalSpec, at, answered, work, settled, Returns};
 ghost use mathlib.Core.Bool.{cond};
 ghost use lib.ListN.{length};
@@ -322,7 +324,7 @@ fn kept_at(h: Head, b: usize, rec: &[u8], kept: [u8; 256]) -> [u8; 256]
     }
 }
 
-// A later row.
+// A later row. It works as `run` does, but in its own place: of all calls this one is made the most, and `run` copies what it is handed.
 fn later_row(
     t: &[u16],
     h: Head,
@@ -345,23 +347,27 @@ fn later_row(
     let flag = set[d];
     let flags = cleared(t, h, d, group, set);
     let next = kept_at(h, b, rec, kept);
-    run(
+    let ok = totals.ok;
+    if !ok {
+        return refusal(s, Verdict::Sum);
+    }
+    let shown = totals.shown;
+    let sums = totals.sums;
+    let outcome = pages::call(
         t,
         h,
         lits,
-        s,
-        totals,
         &kept,
         rec,
+        &shown,
         flag,
         false,
         plan::later_plan(h, b, group),
         false,
-        Report::RUNNING,
-        flags,
-        next,
+        place_of(s),
         out,
-    )
+    );
+    conclude(s, Report::RUNNING, sums, flags, next, outcome)
 }
 
 // The last footings of a report.
@@ -457,6 +463,58 @@ fn initiate_on(t: &[u16], h: Head, s: Report) -> Answer
     }
 }
 
+// INITIATE under a description that keeps D1, in a table that has just room for its numbers. The calls below lend the front
+// of 512 numbers where these are enough, and else of 4392, the most: the fewer, the sooner they are set up.
+fn initiate_in(s: Report, d: &[u8], t: &mut [u16]) -> Answer
+    requires { ⌜ (ruleD1 (now d) ≡ true) × (length (now t) ≡ numbers (now d)) ⌝ }
+    ensures { λ r. ⌜ r ≡ initiateSpec (now (d .entry)) s [] .answer ⌝ }
+{
+    tables::unpack(d, t);
+    let h = tables::head_of(d);
+    let judged = description::judge(t, h, description::literals_of(d));
+    match judged {
+        Checked::Broken(rule) => refusal(s, Verdict::Description(rule)),
+        Checked::Accepted => initiate_on(t, h, s),
+    }
+}
+
+// GENERATE under a description that keeps D1.
+fn generate_in(
+    s: Report,
+    d: &[u8],
+    t: &mut [u16],
+    detail: usize,
+    rec: &[u8],
+    out: &mut [u8],
+) -> Answer
+    requires { ⌜ (ruleD1 (now d) ≡ true) × (length (now t) ≡ numbers (now d)) ⌝ }
+    ensures { λ r. ⌜ Returns (generateSpec (now (d .entry)) s detail (now (rec .entry)) (now (out .entry))) r (now (out .exit)) ⌝ }
+{
+    tables::unpack(d, t);
+    let h = tables::head_of(d);
+    let lits = description::literals_of(d);
+    let judged = description::judge(t, h, lits);
+    match judged {
+        Checked::Broken(rule) => refusal(s, Verdict::Description(rule)),
+        Checked::Accepted => generate_on(t, h, lits, s, detail, rec, out),
+    }
+}
+
+// TERMINATE under a description that keeps D1.
+fn terminate_in(s: Report, d: &[u8], t: &mut [u16], out: &mut [u8]) -> Answer
+    requires { ⌜ (ruleD1 (now d) ≡ true) × (length (now t) ≡ numbers (now d)) ⌝ }
+    ensures { λ r. ⌜ Returns (terminateSpec (now (d .entry)) s (now (out .entry))) r (now (out .exit)) ⌝ }
+{
+    tables::unpack(d, t);
+    let h = tables::head_of(d);
+    let lits = description::literals_of(d);
+    let judged = description::judge(t, h, lits);
+    match judged {
+        Checked::Broken(rule) => refusal(s, Verdict::Description(rule)),
+        Checked::Accepted => terminate_on(t, h, lits, s, out),
+    }
+}
+
 impl Report {
     // The phases, the last page and the range of a sum.
     pub const IDLE: u8 = 0;
@@ -499,14 +557,13 @@ impl Report {
         let Kept::Yes = file::rule_d1(d) else {
             return refusal(self, Verdict::Description(1));
         };
-        let h = tables::head_of(d);
-        let mut t = [0u16; 4392];
-        tables::unpack(d, &mut t);
-        let judged = description::judge(&t, h, description::literals_of(d));
-        match judged {
-            Checked::Broken(rule) => refusal(self, Verdict::Description(rule)),
-            Checked::Accepted => initiate_on(&t, h, self),
+        let n = tables::numbers_of(d);
+        if n <= 512 {
+            let mut t = [tables::UNSET; 512];
+            return initiate_in(self, d, &mut t[..n]);
         }
+        let mut t = [tables::UNSET; 4392];
+        initiate_in(self, d, &mut t[..n])
     }
 
     // GENERATE one record as detail number `detail`.
@@ -516,15 +573,13 @@ impl Report {
         let Kept::Yes = file::rule_d1(d) else {
             return refusal(self, Verdict::Description(1));
         };
-        let h = tables::head_of(d);
-        let mut t = [0u16; 4392];
-        tables::unpack(d, &mut t);
-        let lits = description::literals_of(d);
-        let judged = description::judge(&t, h, lits);
-        match judged {
-            Checked::Broken(rule) => refusal(self, Verdict::Description(rule)),
-            Checked::Accepted => generate_on(&t, h, lits, self, detail, rec, out),
+        let n = tables::numbers_of(d);
+        if n <= 512 {
+            let mut t = [tables::UNSET; 512];
+            return generate_in(self, d, &mut t[..n], detail, rec, out);
         }
+        let mut t = [tables::UNSET; 4392];
+        generate_in(self, d, &mut t[..n], detail, rec, out)
     }
 
     // TERMINATE.
@@ -534,14 +589,50 @@ impl Report {
         let Kept::Yes = file::rule_d1(d) else {
             return refusal(self, Verdict::Description(1));
         };
-        let h = tables::head_of(d);
-        let mut t = [0u16; 4392];
-        tables::unpack(d, &mut t);
-        let lits = description::literals_of(d);
-        let judged = description::judge(&t, h, lits);
-        match judged {
-            Checked::Broken(rule) => refusal(self, Verdict::Description(rule)),
-            Checked::Accepted => terminate_on(&t, h, lits, self, out),
+        let n = tables::numbers_of(d);
+        if n <= 512 {
+            let mut t = [tables::UNSET; 512];
+            return terminate_in(self, d, &mut t[..n], out);
+        }
+        let mut t = [tables::UNSET; 4392];
+        terminate_in(self, d, &mut t[..n], out)
+    }
+}
+
+impl Verdict {
+    // The number of the refusal table; 0 is acceptance.
+    pub fn number(self) -> u64
+        ensures { λ r. ⌜ r ≡ number self ⌝ }
+    {
+        match self {
+            Verdict::Accepted => 0,
+            Verdict::Description(_) => 1,
+            Verdict::State => 2,
+            Verdict::Phase => 3,
+            Verdict::Detail => 4,
+            Verdict::Length => 5,
+            Verdict::Field(_) => 6,
+            Verdict::Sum => 7,
+            Verdict::Pages => 8,
+            Verdict::Room => 9,
+        }
+    }
+
+    // The extra number: the first broken rule, or the first malformed field.
+    pub fn extra(self) -> u64
+        ensures { λ r. ⌜ r ≡ extra self ⌝ }
+    {
+        match self {
+            Verdict::Accepted => 0,
+            Verdict::Description(rule) => rule as u64,
+            Verdict::State => 0,
+            Verdict::Phase => 0,
+            Verdict::Detail => 0,
+            Verdict::Length => 0,
+            Verdict::Field(field) => field as u64,
+            Verdict::Sum => 0,
+            Verdict::Pages => 0,
+            Verdict::Room => 0,
         }
     }
 }

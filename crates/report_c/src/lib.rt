@@ -1,17 +1,92 @@
 // The calls for C and Rust, over numbers and byte slices; docs/ABI.md has the layout.
 ghost use mathlib.Core.Path.{_≡_};
+ghost use mathlib.Core.List.{[]};
+ghost use lib.ListN.{length};
 ghost use Rattle.description.specs.Check.{checked};
-ghost use Rattle.description.specs.Refusal.{extra};
+ghost use Rattle.description.specs.Refusal.{extra as broken};
+ghost use Rattle.report.specs.State.{freshAt};
+ghost use Rattle.report.specs.Calls.{initiate as initiateSpec, generate as generateSpec, terminate as terminateSpec};
+ghost use Rattle.state_bytes.specs.Bytes.{bytesOf, stateOf};
+ghost use Rattle.report_c.specs.Leaves.{Leaves, Tells};
 use description::Checked;
+use report::Answer;
+use report::Report;
 
 // CHECK: 0 where the description is accepted, else the first broken rule.
 #[no_mangle]
 pub extern "C" fn bailcurlew_check(d: &[u8]) -> u32
-    ensures { λ r. ⌜ r ≡ extra (checked (now (d .entry))) ⌝ }
+    ensures { λ r. ⌜ r ≡ broken (checked (now (d .entry))) ⌝ }
 {
     let answer = description::check(d);
     match answer {
         Checked::Accepted => 0,
         Checked::Broken(rule) => rule as u32,
     }
+}
+
+// Tells the answer, and stores the next state where the call was accepted.
+fn tell(a: Answer, state: &mut [u8], answer: &mut [u64])
+    requires { ⌜ (length (now state) ≡ 530) × (length (now answer) ≡ 3) ⌝ }
+    ensures { λ _. ⌜ Tells a (now (state .entry)) (now (state .exit)) (now (answer .exit)) ⌝ }
+{
+    let v = a.verdict;
+    let n = v.number();
+    answer[0] = n;
+    answer[1] = v.extra();
+    answer[2] = a.count as u64;
+    if n == 0 {
+        let s = a.report;
+        state_bytes::encode(s, state);
+    }
+}
+
+// A fresh report.
+#[no_mangle]
+pub extern "C" fn bailcurlew_fresh(state: &mut [u8; 530])
+    ensures { λ _. ⌜ now (state .exit) ≡ bytesOf (freshAt 0) ⌝ }
+{
+    let s = Report::fresh();
+    state_bytes::encode(s, state);
+}
+
+// INITIATE.
+#[no_mangle]
+pub extern "C" fn bailcurlew_initiate(d: &[u8], state: &mut [u8; 530], answer: &mut [u64; 3])
+    ensures { λ _. ⌜ Leaves (initiateSpec (now (d .entry)) (stateOf (now (state .entry))) []) (now (state .entry)) (now (state .exit)) [] (now (answer .exit)) ⌝ }
+{
+    let s = state_bytes::decode(state);
+    let a = s.initiate(d);
+    tell(a, state, answer);
+}
+
+// GENERATE one record as detail number `detail`.
+#[no_mangle]
+pub extern "C" fn bailcurlew_generate(
+    d: &[u8],
+    state: &mut [u8; 530],
+    detail: usize,
+    rec: &[u8],
+    out: &mut [u8],
+    answer: &mut [u64; 3],
+)
+    ensures { λ _. ⌜ Leaves (generateSpec (now (d .entry)) (stateOf (now (state .entry))) detail (now (rec .entry)) (now (out .entry))) (now (state .entry)) (now (state .exit)) (now (out .exit)) (now (answer .exit)) ⌝ }
+{
+    let s = state_bytes::decode(state);
+    let a = s.generate(d, detail, rec, out);
+    tell(a, state, answer);
+}
+
+// TERMINATE.
+#[no_mangle]
+pub extern "C" fn bailcurlew_terminate(
+    d: &[u8],
+    state: &mut [u8; 530],
+    out: &mut [u8],
+    answer: &mut [u64; 3],
+)
+    ensures { λ _. ⌜ Leaves (terminateSpec (now (d .entry)) (stateOf (now (state .entry))) (now (out .entry))) (now (state .entry)) (now (state .exit)) (now (out .exit)) (now (answer .exit)) ⌝ }
+{
+    let s = state_bytes::decode(state);
+    let a = s.terminate(d, out);
+    tell(a, state, answer);
 }

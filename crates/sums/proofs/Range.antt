@@ -2,7 +2,7 @@
 -- Assumes nothing.
 use Prim.Native.Nat.{ℕ, zero, suc, _+_, _-_, _≤_, _<_}
 use mathlib.Core.Path.{_≡_, refl, ap, _∙_}
-use mathlib.Core.Bool.{true}
+use mathlib.Core.Bool.{Bool, true}
 use mathlib.Core.List.{List, [], _∷_}
 use mathlib.Core.Logic.{_⊎_, inl, inr, ⊎-elim}
 use native.Mathlib.Omega.{arith}
@@ -17,7 +17,7 @@ use Rattle.number.specs.Value.{limit}
 use Rattle.number.proofs.Bits.{sfits-natAbs, read-natAbs}
 use Rattle.rows.proofs.Searches.{all-intro}
 use Rattle.sums.specs.declared.Totals.{Totals}
-use Rattle.sums.specs.Sums.{inRange, sumOk, sumsOk, sumAt, addAt}
+use Rattle.sums.specs.Sums.{totals, inRange, sumOk, sumsOk, sumAt, addAt, Does}
 use Rattle.sums.specs.Facts.{InRange}
 
 -- magnitudes of sums
@@ -70,3 +70,7 @@ pub add-range : (i : ℕ) (x : ℤ) {a : Totals} → InRange a → InRange (addA
 unfolding addAt
 add-range i x {a} r =
     by-cond InRange (inRange (sumAt i a +ℤ x)) (λ e. record { sums = sums-set (a .sums) i (sumAt i a +ℤ x) e (r .sums) }) (λ e. record { sums = r .sums })
+
+-- work in the sums' place that keeps totals in range keeps them so
+pub does-range : (f : Totals → Totals) {ok ok' : Bool} {sums sums' : List ℤ} → ((a : Totals) → InRange a → InRange (f a)) → Does f ok sums ok' sums' → sumsOk sums ≡ true → sumsOk sums' ≡ true
+does-range f {ok' = ok'} {sums' = sums'} g e r = let z : InRange (totals ok' sums' []) = rw (e []) (g _ (record { sums = r })) in z .sums

@@ -1,5 +1,6 @@
 -- The sums, and one addition to them.
 use Prim.Native.Nat.{ℕ}
+use mathlib.Core.Path.{_≡_}
 use mathlib.Core.Bool.{Bool, false, cond}
 use mathlib.Core.List.{List}
 use lib.Dec.{leb}
@@ -34,3 +35,11 @@ refused a = record { ok = false; sums = a .sums; shown = a .shown }
 -- x added to sum i. "One addition out of range refuses the call."
 unfoldable pub addAt : ℕ → ℤ → Totals → Totals
 addAt i x a = cond (inRange (sumAt i a +ℤ x)) (put i (sumAt i a +ℤ x) a) (refused a)
+
+-- the totals of these parts
+abbrev pub totals : Bool → List ℤ → List ℤ → Totals
+totals ok sums shown = record { ok = ok; sums = sums; shown = shown }
+
+-- what work on the sums in their place leaves: the totals that f makes of those before it, whatever is shown
+abbrev pub Does : (Totals → Totals) → Bool → List ℤ → Bool → List ℤ → Type 0
+Does f ok sums ok' sums' = (shown : List ℤ) → totals ok' sums' shown ≡ f (totals ok sums shown)

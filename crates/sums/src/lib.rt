@@ -1,10 +1,11 @@
 // The sums of the counters: one addition within the range, and the subtotal of a row.
 ghost use mathlib.Core.Path.{_≡_};
 ghost use mathlib.Core.Bool.{true};
+ghost use mathlib.Core.List.{[]};
 ghost use Prim.Native.Nat.{_<_};
-ghost use Rattle.sums.specs.Sums.{inRange, addAt};
+ghost use Rattle.sums.specs.Sums.{totals, inRange, sumsOk, addAt, Does};
 ghost use Rattle.sums.specs.Subtotal.{addField, addFields, subtotal as subtotalSpec};
-ghost use Rattle.sums.specs.Facts.{AddendIn, InRange, Adding};
+ghost use Rattle.sums.specs.Facts.{AddendIn, Adding};
 use number::signed;
 use tables::Head;
 
@@ -24,63 +25,77 @@ pub fn within(x: i64) -> bool
     signed::magnitude(x) <= LIMIT
 }
 
-// The totals with x added to sum i, or refused.
-pub fn add_at(a: Totals, i: usize, x: i64) -> Totals
-    requires { ⌜ InRange a × ((i < 32) × (inRange x ≡ true)) ⌝ }
-    ensures { λ r. ⌜ r ≡ addAt i x a ⌝ }
+// Adds x to sum i, or refuses; whether no addition was refused. The sums stay where they are: a copy for each addend is dear.
+pub fn add_to(i: usize, x: i64, ok: bool, sums: &mut [i64; 32]) -> bool
+    requires { ⌜ (sumsOk (now sums) ≡ true) × ((i < 32) × (inRange x ≡ true)) ⌝ }
+    ensures { λ r. ⌜ Does (addAt i x) ok (now (sums .entry)) r (now (sums .exit)) ⌝ }
 {
-    let mut next = a;
-    let sum = next.sums[i] + x;
+    let sum = sums[i] + x;
     if within(sum) {
-        next.sums[i] = sum;
-    } else {
-        next.ok = false;
+        sums[i] = sum;
+        return ok;
     }
-    next
+    false
 }
 
 // Addend `a` of counter `k`: a field that is selected by the detail.
-fn add_field(t: &[u16], h: Head, rec: &[u8], d: usize, k: usize, a: usize, acc: Totals) -> Totals
-    requires { ⌜ Adding h (now t) (now rec) d acc × (AddendIn h (now t) a × ((k < h .counters) × (a < 131072))) ⌝ }
-    ensures { λ r. ⌜ r ≡ addField h (now (t .entry)) (now (rec .entry)) d k a acc ⌝ }
+fn add_field(
+    t: &[u16],
+    h: Head,
+    rec: &[u8],
+    d: usize,
+    k: usize,
+    a: usize,
+    ok: bool,
+    sums: &mut [i64; 32],
+) -> bool
+    requires { ⌜ Adding h (now t) (now rec) d (totals ok (now sums) []) × (AddendIn h (now t) a × ((k < h .counters) × (a < 131072))) ⌝ }
+    ensures { λ r. ⌜ Does (addField h (now (t .entry)) (now (rec .entry)) d k a) ok (now (sums .entry)) r (now (sums .exit)) ⌝ }
 {
     let kind = tables::addend_num(t, h, a, 0);
     let mask = tables::addend_num(t, h, a, 2);
     if (kind == 0) & ((mask >> d) % 2 == 1) {
         let field = tables::addend_num(t, h, a, 1);
-        add_at(acc, k, rows::field_number(t, rec, field))
-    } else {
-        acc
+        return add_to(k, rows::field_number(t, rec, field), ok, sums);
     }
+    ok
 }
 
 // The field addends of counter `k`, in order.
-fn add_fields(t: &[u16], h: Head, rec: &[u8], d: usize, k: usize, start: Totals) -> Totals
-    requires { ⌜ Adding h (now t) (now rec) d start × (k < h .counters) ⌝ }
-    ensures { λ r. ⌜ r ≡ addFields h (now (t .entry)) (now (rec .entry)) d k start ⌝ }
+fn add_fields(
+    t: &[u16],
+    h: Head,
+    rec: &[u8],
+    d: usize,
+    k: usize,
+    ok: bool,
+    sums: &mut [i64; 32],
+) -> bool
+    requires { ⌜ Adding h (now t) (now rec) d (totals ok (now sums) []) × (k < h .counters) ⌝ }
+    ensures { λ r. ⌜ Does (addFields h (now (t .entry)) (now (rec .entry)) d k) ok (now (sums .entry)) r (now (sums .exit)) ⌝ }
 {
     let first = tables::counter_num(t, h, k, 2);
     let n = tables::counter_num(t, h, k, 3);
-    let mut acc = start;
+    let mut good = ok;
     let mut j = 0;
     while j < n {
-        acc = add_field(t, h, rec, d, k, first + j, acc);
+        good = add_field(t, h, rec, d, k, first + j, good, sums);
         j += 1;
     }
-    acc
+    good
 }
 
 // The subtotal of a row: the counters in order.
-pub fn subtotal(t: &[u16], h: Head, rec: &[u8], d: usize, start: Totals) -> Totals
-    requires { ⌜ Adding h (now t) (now rec) d start ⌝ }
-    ensures { λ r. ⌜ r ≡ subtotalSpec h (now (t .entry)) (now (rec .entry)) d start ⌝ }
+pub fn subtotal(t: &[u16], h: Head, rec: &[u8], d: usize, ok: bool, sums: &mut [i64; 32]) -> bool
+    requires { ⌜ Adding h (now t) (now rec) d (totals ok (now sums) []) ⌝ }
+    ensures { λ r. ⌜ Does (subtotalSpec h (now (t .entry)) (now (rec .entry)) d) ok (now (sums .entry)) r (now (sums .exit)) ⌝ }
 {
     let n = tables::wide(h.counters);
-    let mut acc = start;
+    let mut good = ok;
     let mut k = 0;
     while k < n {
-        acc = add_fields(t, h, rec, d, k, acc);
+        good = add_fields(t, h, rec, d, k, good, sums);
         k += 1;
     }
-    acc
+    good
 }

@@ -15,8 +15,7 @@ use Rattle.file.specs.Number.{num}
 use Rattle.file.specs.Trailer.{version, trailer, start, count}
 use Rattle.file.specs.Sections.{sectionEnd, nextStart, sectionOk, ruleD1}
 use Rattle.tables.specs.Head.{headOf}
-use Rattle.tables.specs.Table.{slot, table}
-use Rattle.tables.proofs.Fill.{slot-of}
+use Rattle.tables.specs.Table.{numbers, table, NumbersIn}
 use Rattle.tables.specs.Entry.{inBytes, inTables, words}
 
 module _ (d : List ℕ) (kept : ruleD1 d ≡ true) where
@@ -69,16 +68,28 @@ module _ (d : List ℕ) (kept : ruleD1 d ≡ true) where
         whole = omega arith;
       }
 
-  number : (a b : ℕ) → a < start d 7 / 2 → start d 7 ≤ 8784 → 2 * a ≡ b → getD (table d) a 0 ≡ num d b
+  number : (a b : ℕ) → a < start d 7 / 2 → 2 * a ≡ b → getD (table d) a 0 ≡ num d b
   unfolding table
-  number a b l w e = list-at 4392 (slot d) a (omega arith) ∙ sym (slot-of d a l) ∙ ap (num d) e
+  number a b l e = list-at 0 (numbers d) (λ i. num d (2 * i)) a l ∙ ap (num d) e
 
   pub says : (k : ℕ) → k < 7 → (i : ℕ) → i < count d k → (j : ℕ) → j < words 1 k → inTables (headOf d) (table d) k i j ≡ inBytes d k i j
-  says zero q i h j l = let p = places in let f = first in number (0 + 3 * i + j) _ (omega arith) (p .whole) (omega arith)
-  says (suc zero) q i h j l = let p = places in number (start d 1 / 2 + 1 * i + j) _ (omega arith) (p .whole) (omega arith)
-  says (suc (suc zero)) q i h j l = let p = places in number (start d 2 / 2 + 6 * i + j) _ (omega arith) (p .whole) (omega arith)
-  says (suc (suc (suc zero))) q i h j l = let p = places in number (start d 3 / 2 + 4 * i + j) _ (omega arith) (p .whole) (omega arith)
-  says (suc (suc (suc (suc zero)))) q i h j l = let p = places in number (start d 4 / 2 + 6 * i + j) _ (omega arith) (p .whole) (omega arith)
-  says (suc (suc (suc (suc (suc zero))))) q i h j l = let p = places in number (start d 5 / 2 + 4 * i + j) _ (omega arith) (p .whole) (omega arith)
-  says (suc (suc (suc (suc (suc (suc zero)))))) q i h j l = let p = places in number (start d 6 / 2 + 3 * i + j) _ (omega arith) (p .whole) (omega arith)
+  says zero q i h j l = let p = places in let f = first in number (0 + 3 * i + j) _ (omega arith) (omega arith)
+  says (suc zero) q i h j l = let p = places in number (start d 1 / 2 + 1 * i + j) _ (omega arith) (omega arith)
+  says (suc (suc zero)) q i h j l = let p = places in number (start d 2 / 2 + 6 * i + j) _ (omega arith) (omega arith)
+  says (suc (suc (suc zero))) q i h j l = let p = places in number (start d 3 / 2 + 4 * i + j) _ (omega arith) (omega arith)
+  says (suc (suc (suc (suc zero)))) q i h j l = let p = places in number (start d 4 / 2 + 6 * i + j) _ (omega arith) (omega arith)
+  says (suc (suc (suc (suc (suc zero))))) q i h j l = let p = places in number (start d 5 / 2 + 4 * i + j) _ (omega arith) (omega arith)
+  says (suc (suc (suc (suc (suc (suc zero)))))) q i h j l = let p = places in number (start d 6 / 2 + 3 * i + j) _ (omega arith) (omega arith)
   says (suc (suc (suc (suc (suc (suc (suc k))))))) q i h j l = absurd (omega arith)
+
+  pub numbers-in : NumbersIn d
+  numbers-in = let p = places in let e = ends 7 (omega arith) in record { inside = omega arith; few = omega arith }
+
+  -- "at least 48 bytes"
+  pub long : 48 ≤ length d
+  unfolding ruleD1
+  long =
+      leb-true _ _
+      (and-l (leb (trailerSize (version d)) (length d)) (known (version d))
+      (and-l (leb (trailerSize (version d)) (length d) && known (version d)) (eqb (start d 0) 0)
+      (and-l (leb (trailerSize (version d)) (length d) && known (version d) && eqb (start d 0) 0) (allBelow 8 (sectionOk d)) kept)))

@@ -1,26 +1,26 @@
 -- The list of numbers of a description, and its entries. A number past the end counts as 0.
-use Prim.Native.Nat.{ℕ, _+_, _*_, _/_}
-use mathlib.Core.Path.{_≡_}
-use mathlib.Core.Bool.{cond}
+use Prim.Native.Nat.{ℕ, _+_, _*_, _/_, _≤_}
 use mathlib.Core.List.{List}
-use lib.Dec.{ltb}
-use lib.ListN.{getD, take, drop, replicate}
+use lib.ListN.{length, getD, take, drop}
 use Rattle.counts.specs.Below.{listBelow}
 use Rattle.file.specs.Number.{num}
 use Rattle.file.specs.Trailer.{start, count}
 use Rattle.tables.specs.declared.Head.{Head}
+use Rattle.tables.specs.declared.Item.{Item}
 
--- every section but the literals has entries of whole numbers, so number i of them all is the two bytes at 2i
-abbrev pub slot : List ℕ → ℕ → ℕ
-slot d i = cond (ltb i (start d 7 / 2)) (num d (2 * i)) 0
+-- every section but the literals has entries of whole numbers, so there are so many numbers before the literals
+abbrev pub numbers : List ℕ → ℕ
+numbers d = start d 7 / 2
 
--- 4392 numbers are the most: 32 fields, 8 controls, 32 groups, 128 lines, 512 items, 32 counters, 128 addends
+-- and number i of them all is the two bytes at 2i
 unfoldable pub table : List ℕ → List ℕ
-table d = listBelow 4392 (slot d)
+table d = listBelow (numbers d) (λ i. num d (2 * i))
 
--- a table that nothing is put into yet
-abbrev pub Zeros : List ℕ → Type 0
-Zeros t = t ≡ replicate 4392 0
+-- what D1 gives for reading them: they lie inside the file, and "at most 32 fields, 8 controls, 32 groups, 128 lines, 512 items, 32 counters,
+-- 128 addends" are 4392 numbers
+pub record NumbersIn (d : List ℕ) : Type 0 where
+  pub inside : start d 7 ≤ length d
+  pub few : numbers d ≤ 4392
 
 -- the literal bytes
 unfoldable pub literals : List ℕ → List ℕ
@@ -110,6 +110,20 @@ itemDecimals h t i = item h t i 4
 
 abbrev pub itemFlag : Head → List ℕ → ℕ → ℕ
 itemFlag h t i = item h t i 5
+
+-- the six numbers at a place, and item i whole
+abbrev pub itemAt : List ℕ → ℕ → Item
+itemAt t at = record {
+  column = getD t at 0;
+  width = getD t (at + 1) 0;
+  kind = getD t (at + 2) 0;
+  index = getD t (at + 3) 0;
+  decimals = getD t (at + 4) 0;
+  flag = getD t (at + 5) 0;
+}
+
+abbrev pub itemOf : Head → List ℕ → ℕ → Item
+itemOf h t i = itemAt t (h .istart + 6 * i)
 
 -- "Counter: group, reset level, first addend, addend count."
 abbrev pub counter : Head → List ℕ → ℕ → ℕ → ℕ

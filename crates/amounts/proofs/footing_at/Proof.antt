@@ -10,8 +10,9 @@ use Rattle.amounts.proofs.footing_at.Tie as tie
 returns : tie.Need-returns
 unfolding footingAt
 returns c =
-    let g = c .before .before .before .find .ensures .0 in
-    rw (lt-ltb _ _ (rw (g, c .before .before .wide .ensures .is) at (c .before .if1 .taken)), ← g) (c .footing .ensures)
+    let b = c .before .before .before in
+    let g = b .before .before .find .ensures .0 in
+    rw (lt-ltb _ _ (rw (g, b .before .wide .ensures .is) at (b .if1 .taken)), ← g) (c .footing .ensures)
 
 returns-2 : tie.Need-returns-2
 unfolding footingAt

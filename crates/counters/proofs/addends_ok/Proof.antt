@@ -1,15 +1,16 @@
 -- `counters::addends_ok` meets its contract. The invariant: the flag is the test of every addend passed.
 -- Assumes nothing.
-use Prim.Native.Nat.{_≤_, _-_}
-use mathlib.Core.Path.{_≡_, refl}
-use mathlib.Core.Bool.{_&&_}
+use Prim.Native.Nat.{_+_, _≤_, _-_}
+use mathlib.Core.Path.{_≡_, refl, sym, _∙_}
+use mathlib.Core.Bool.{Bool, true, false, _&&_}
 use native.Mathlib.Omega.{arith}
 use borrow.Author.Needs.{needs}
 use borrow.Author.Tests.{not-true, not-false}
 use lib.Dec.{leb}
+use Rattle.tables.specs.Table.{firstAddend, addendCount}
 use Rattle.counts.specs.Below.{allBelow}
 use Rattle.counts.proofs.Laws.{all-next}
-use Rattle.counters.specs.Counters.{ownAddendOk, addendsOk}
+use Rattle.counters.specs.Counters.{newAddend, ownAddendOk, addendsOk}
 use Rattle.counters.proofs.addends_ok.Statement.{statement}
 use Rattle.counters.proofs.addends_ok.Tie as tie
 
@@ -26,6 +27,19 @@ returns c =
     let few = rw (n .ensures .is) at (not-true (leb 1 (n .result) && leb (n .result) 8) (c .if1 .taken)) in
     rw few refl
 
+and-true : (b : Bool) → b ≡ (b && true)
+and-true true = refl
+and-true false = refl
+
+returns-2 : tie.Need-returns-2 Inv-loop μ-loop
+unfolding addendsOk allBelow ownAddendOk newAddend
+returns-2 c =
+    let f = c .before .before .before .before .counter-num .ensures .is in
+    let n = c .before .before .before .counter-num2 .ensures .is in
+    let a = c .before .before .before .before .before .before .args in
+    let z : firstAddend (a .h) (a .t .now) (a .k) + 0 ≡ firstAddend (a .h) (a .t .now) (a .k) = omega arith in
+    rw (sym n ∙ c .before .if2 .taken, z, ← f) (c .addend-ok .ensures ∙ and-true _)
+
 loop-holds : tie.Need-loop-holds Inv-loop μ-loop
 unfolding allBelow
 loop-holds c = search needs
@@ -34,15 +48,15 @@ loop-again : tie.Need-loop-again Inv-loop μ-loop
 unfolding ownAddendOk
 loop-again c = (omega arith, all-next _ _ (c .before .before .before .loop .inv .1) (cc))
 
-returns-2 : tie.Need-returns-2 Inv-loop μ-loop
+returns-3 : tie.Need-returns-3 Inv-loop μ-loop
 unfolding addendsOk
-returns-2 c =
-    let n = c .before .before .before .counter-num2 in
+returns-3 c =
+    let n = c .before .before .before .before .counter-num2 in
     let e : c .before .loop .j ≡ n .result = omega arith in
-    let few = rw (n .ensures .is) at (not-false (leb 1 (n .result) && leb (n .result) 8) (c .before .before .if1 .left)) in
+    let few = rw (n .ensures .is) at (not-false (leb 1 (n .result) && leb (n .result) 8) (c .before .before .before .if1 .left)) in
     rw few (cc)
 
 pub addends-ok-spec : {M : Type 1} → statement M
 addends-ok-spec =
     tie.close
-    (tie.spec Inv-loop μ-loop (λ c κs. search needs) (λ c κs. search needs) returns loop-holds (λ c. omega arith) (λ c κs. omega arith) (λ c κs. omega arith) (λ c. omega arith) (λ c. omega arith) loop-again returns-2)
+    (tie.spec Inv-loop μ-loop (λ c κs. search needs) (λ c κs. search needs) returns (λ c κs. omega arith) returns-2 loop-holds (λ c. omega arith) (λ c κs. omega arith) (λ c κs. omega arith) (λ c. omega arith) (λ c. omega arith) loop-again returns-3)

@@ -6,8 +6,10 @@ use mathlib.Core.Bool.{true}
 use native.Mathlib.Omega.{arith}
 use borrow.Author.Needs.{needs}
 use borrow.Author.Tests.{eqb-true}
+use lib.IntN.{pos}
+use lib.ListN.{getD}
 use Rattle.counts.proofs.Laws.{and-l}
-use Rattle.sums.specs.Sums.{inRange, sumAt}
+use Rattle.sums.specs.Sums.{inRange}
 use Rattle.sums.proofs.Range.{read-in, sum-in}
 use Rattle.footing.specs.Rolling.{addSame}
 use Rattle.footing.proofs.add_same.Statement.{statement}
@@ -21,24 +23,24 @@ named c =
     omega (arith, b .pre .1 .0 .counter k, c .before .before .addend-num2 .ensures .is, b .pre .0 .0 .few)
 
 -- and its sum is in range
-in-range : (c : tie.After-x) → inRange (sumAt (c .before .before .before .addend-num2 .result) (c .before .before .before .before .before .before .args .t6)) ≡ true
-in-range c = sum-in (c .before .before .before .before .before .before .args .t6 .sums) _ (named (c .before)) (c .before .before .before .before .before .before .pre .0 .1 .sums)
+in-range : (c : tie.After-x) → inRange (getD (c .before .before .before .before .before .before .args .sums .now) (c .before .before .before .addend-num2 .result) (pos 0)) ≡ true
+in-range c = sum-in (c .before .before .before .before .before .before .args .sums .now) _ (named (c .before)) (c .before .before .before .before .before .before .pre .0 .1)
 
-add-at-requires : tie.Need-add-at-requires
-add-at-requires c κs =
-    let p = c .before .before .before .before .before .before .pre in
-    (p .0 .1, (omega (arith, p .1 .1 .0, p .0 .0 .few), rw (read-in _ (in-range c)) (in-range c)))
+add-to-requires : tie.Need-add-to-requires
+add-to-requires c κs =
+    let p = c .before .before .before .before .before .before .before .pre in
+    (p .0 .1, (omega (arith, p .1 .1 .0, p .0 .0 .few), rw (read-in _ (in-range (c .before))) (in-range (c .before))))
 
 returns : tie.Need-returns
 unfolding addSame
-returns c =
-    let b = c .before .before .before in
-    let s = rw (b .before .addend-num2 .ensures .is, b .before .before .addend-num .ensures .is) at (rw (b .counter-num .ensures .is) at (c .before .before .if1 .taken)) in
-    rw (s, ← b .before .addend-num2 .ensures .is) (rw (read-in _ (in-range (c .before))) at (c .add-at .ensures))
+returns c shown =
+    let b = c .before .before .before .before in
+    let s = rw (b .before .addend-num2 .ensures .is, b .before .before .addend-num .ensures .is) at (rw (b .counter-num .ensures .is) at (c .before .before .before .if1 .taken)) in
+    rw (s, ← b .before .addend-num2 .ensures .is) (rw (read-in _ (in-range (c .before .before))) at (c .add-to .ensures shown))
 
 returns-2 : tie.Need-returns-2
 unfolding addSame
-returns-2 c =
+returns-2 c shown =
     let b = c .before in
     let s = rw (b .before .addend-num2 .ensures .is, b .before .before .addend-num .ensures .is) at (rw (b .counter-num .ensures .is) at (c .if1 .left)) in
     rw s refl
@@ -52,6 +54,6 @@ add-same-spec =
     (λ c κs. search needs)
     (λ c. search needs)
     (λ c. named c)
-    add-at-requires
+    add-to-requires
     returns
     returns-2)

@@ -6,12 +6,12 @@ use Rattle.footing.proofs.reset_counter.Statement.{statement}
 use Rattle.footing.proofs.reset_counter.Tie as tie
 
 returns : tie.Need-returns
-returns c =
+returns c shown =
     let b = c .before in
     rw (rw (b .before .counter-num .ensures .is) at (rw (b .control-num .ensures .is) at (c .if1 .taken))) refl
 
 returns-2 : tie.Need-returns-2
-returns-2 c =
+returns-2 c shown =
     let b = c .before in
     rw (rw (b .before .counter-num .ensures .is) at (rw (b .control-num .ensures .is) at (c .if1 .left))) refl
 

@@ -15,28 +15,28 @@ use Rattle.footing.proofs.roll_into.Tie as tie
 level : (c : tie.After-group-num) → c .group-num .result ≡ levelOf (c .before .before .before .args .h) (c .before .before .before .args .t .now) (counterGroup (c .before .before .before .args .h) (c .before .before .before .args .t .now) (c .before .before .before .args .s))
 level c = rw (← c .before .counter-num .ensures .is) (c .group-num .ensures .is)
 
-add-at-requires : tie.Need-add-at-requires
-add-at-requires c κs =
-    let b = c .before .before .before .before .before .before in
+add-to-requires : tie.Need-add-to-requires
+add-to-requires c κs =
+    let b = c .before .before .before .before .before .before .before in
     (b .pre .0 .1, (omega (arith, b .pre .1 .0, b .pre .0 .0 .few), rw (toZ-ofZ w64 _ (b .fits .x)) (b .pre .1 .1)))
 
 returns : tie.Need-returns
 unfolding rollInto
-returns c =
-    let b = c .before .before .before .before in
-    rw (← level b, lt-ltb _ _ (c .before .before .before .if1 .taken), sym (c .before .before .names .ensures) ∙ c .before .if2 .taken)
-    (rw (toZ-ofZ w64 _ (b .before .before .before .fits .x)) at (c .add-at .ensures))
+returns c shown =
+    let b = c .before .before .before .before .before in
+    rw (← level b, lt-ltb _ _ (c .before .before .before .before .if1 .taken), sym (c .before .before .before .names .ensures) ∙ c .before .before .if2 .taken)
+    (rw (toZ-ofZ w64 _ (b .before .before .before .fits .x)) at (c .add-to .ensures shown))
 
 returns-2 : tie.Need-returns-2
 unfolding rollInto
-returns-2 c =
+returns-2 c shown =
     rw (← level (c .before .before .before), lt-ltb _ _ (c .before .before .if1 .taken), sym (c .before .names .ensures) ∙ c .if2 .left) refl
 
 returns-3 : tie.Need-returns-3
 unfolding rollInto
-returns-3 c = rw (← level (c .before), le-ltb _ _ (c .if1 .left)) refl
+returns-3 c shown = rw (← level (c .before), le-ltb _ _ (c .if1 .left)) refl
 
 pub roll-into-spec : {M : Type 1} → statement M
 roll-into-spec =
     tie.close
-    (tie.spec (λ c κs. search needs) (λ c κs. search needs) (λ c κs. search needs) add-at-requires returns returns-2 returns-3)
+    (tie.spec (λ c κs. search needs) (λ c κs. search needs) (λ c κs. search needs) add-to-requires returns returns-2 returns-3)

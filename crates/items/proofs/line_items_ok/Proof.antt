@@ -7,7 +7,7 @@ use borrow.Author.Needs.{needs}
 use Rattle.counts.specs.Below.{allBelow}
 use Rattle.counts.proofs.Laws.{all-next}
 use Rattle.items.specs.Items.{freeColumn, itemOk, lineItemsOk}
-use Rattle.items.proofs.Laws.{item-is, free-next}
+use Rattle.items.proofs.Laws.{column-of, width-of, item-is, free-next}
 use Rattle.items.proofs.line_items_ok.Statement.{statement}
 use Rattle.items.proofs.line_items_ok.Tie as tie
 
@@ -22,13 +22,17 @@ loop-holds : tie.Need-loop-holds Inv-loop μ-loop
 unfolding allBelow freeColumn
 loop-holds c = search needs
 
+shown-ok-requires : tie.Need-shown-ok-requires Inv-loop μ-loop
+shown-ok-requires c κs = (c .before .before .before .before .before .before .before .before .before .before .pre .0, c .before .before .before .item-of .ensures)
+
 loop-again : tie.Need-loop-again Inv-loop μ-loop
 loop-again c =
-    let b = c .before .before .before .before .before in
+    let b = c .before .before .before .before .before .before in
     let a = b .before .before .before .before .before .args in
     let f = b .before .before .line-num .ensures .is in
-    let column = c .before .before .before .item-num .ensures .is in
-    let width = c .before .before .item-num2 .ensures .is in (
+    let e = c .before .before .before .before .item-of .ensures in
+    let column = column-of (a .h) (a .t .now) _ e (c .before .before .before .wide .ensures .is) in
+    let width = width-of (a .h) (a .t .now) _ e (c .before .before .wide2 .ensures .is) in (
       omega arith,
       (
         all-next _ _ (b .loop .inv .1 .0)
@@ -46,4 +50,4 @@ returns c =
 pub line-items-ok-spec : {M : Type 1} → statement M
 line-items-ok-spec =
     tie.close
-    (tie.spec Inv-loop μ-loop (λ c κs. search needs) (λ c κs. search needs) loop-holds (λ c. omega arith) (λ c κs. omega arith) (λ c κs. omega arith) (λ c κs. search needs) (λ c κs. omega arith) (λ c. omega arith) (λ c. omega arith) (λ c. omega arith) loop-again returns)
+    (tie.spec Inv-loop μ-loop (λ c κs. search needs) (λ c κs. search needs) loop-holds (λ c. omega arith) (λ c κs. omega arith) (λ c κs. search needs) (λ c κs. search needs) (λ c κs. search needs) shown-ok-requires (λ c. omega arith) (λ c. omega arith) (λ c. omega arith) loop-again returns)

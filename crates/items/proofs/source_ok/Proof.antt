@@ -4,27 +4,50 @@ use mathlib.Core.Path.{sym, _∙_}
 use borrow.Author.Needs.{needs}
 use borrow.Author.Tests.{ne-eqb}
 use Rattle.items.specs.Sources.{sourceOk}
+use Rattle.items.proofs.Laws.{width-of, kind-of, index-of}
 use Rattle.items.proofs.source_ok.Statement.{statement}
 use Rattle.items.proofs.source_ok.Tie as tie
 
 returns : tie.Need-returns
 unfolding sourceOk
-returns c = rw (sym (c .before .before .item-num2 .ensures .is) ∙ c .match .keys1) (cc)
+returns c =
+    let a = c .before .before .before .before .before .before .args in
+    let e = c .before .before .before .before .before .before .pre .1 in
+    let w = width-of (a .h) (a .t .now) (a .i) e (c .before .before .before .wide .ensures .is) in
+    let k = kind-of (a .h) (a .t .now) (a .i) e (c .before .before .wide2 .ensures .is) in
+    let n = index-of (a .h) (a .t .now) (a .i) e (c .before .wide3 .ensures .is) in
+    rw (sym k ∙ c .match .keys1) (cc)
 
 returns-2 : tie.Need-returns-2
 unfolding sourceOk
-returns-2 c = rw (sym (c .before .before .before .item-num2 .ensures .is) ∙ c .before .match .keys2) (cc)
+returns-2 c =
+    let a = c .before .before .before .before .before .before .before .args in
+    let e = c .before .before .before .before .before .before .before .pre .1 in
+    let w = width-of (a .h) (a .t .now) (a .i) e (c .before .before .before .before .wide .ensures .is) in
+    let k = kind-of (a .h) (a .t .now) (a .i) e (c .before .before .before .wide2 .ensures .is) in
+    let n = index-of (a .h) (a .t .now) (a .i) e (c .before .before .wide3 .ensures .is) in
+    rw (sym k ∙ c .before .match .keys2) (cc)
 
 returns-3 : tie.Need-returns-3
 unfolding sourceOk
-returns-3 c = rw (sym (c .before .before .before .before .item-num2 .ensures .is) ∙ c .before .before .match .keys3) (cc)
+returns-3 c =
+    let a = c .before .before .before .before .before .before .before .before .args in
+    let e = c .before .before .before .before .before .before .before .before .pre .1 in
+    let w = width-of (a .h) (a .t .now) (a .i) e (c .before .before .before .before .before .wide .ensures .is) in
+    let k = kind-of (a .h) (a .t .now) (a .i) e (c .before .before .before .before .wide2 .ensures .is) in
+    let n = index-of (a .h) (a .t .now) (a .i) e (c .before .before .before .wide3 .ensures .is) in
+    rw (sym k ∙ c .before .before .match .keys3) (cc)
 
 returns-4 : tie.Need-returns-4
 unfolding sourceOk
 returns-4 c =
-    let e = c .before .before .item-num2 .ensures .is in
+    let a = c .before .before .before .before .before .before .args in
+    let e = c .before .before .before .before .before .before .pre .1 in
+    let w = width-of (a .h) (a .t .now) (a .i) e (c .before .before .before .wide .ensures .is) in
+    let k = kind-of (a .h) (a .t .now) (a .i) e (c .before .before .wide2 .ensures .is) in
+    let n = index-of (a .h) (a .t .now) (a .i) e (c .before .wide3 .ensures .is) in
     let r = c .match .rest in
-    rw (ne-eqb _ 0 (λ q. r .0 .0 .1 (e ∙ q)), ne-eqb _ 1 (λ q. r .0 .1 (e ∙ q)), ne-eqb _ 4 (λ q. r .1 (e ∙ q))) (cc)
+    rw (ne-eqb _ 0 (λ q. r .0 .0 .1 (k ∙ q)), ne-eqb _ 1 (λ q. r .0 .1 (k ∙ q)), ne-eqb _ 4 (λ q. r .1 (k ∙ q))) (cc)
 
 pub source-ok-spec : {M : Type 1} → statement M
 source-ok-spec =

@@ -25,23 +25,23 @@ field-number-requires c κs =
     let k = field (c .before) in
     (field-formed (f .result) (rw (f .ensures .is) (a .field k)) (f .ensures .small) (b .pre .0 .row), rw (f .ensures .is) (a .number k))
 
-add-at-requires : tie.Need-add-at-requires
-add-at-requires c κs =
-    let p = c .before .before .before .before .before .before .before .pre in
-    let n = c .field-number in
-    (p .0 .range, (omega (arith, p .1 .1 .0, p .0 .counters .few), rw (toZ-ofZ w64 _ (record { sfits = n .ok })) (le-leb _ _ (n .ensures .inside))))
+add-to-requires : tie.Need-add-to-requires
+add-to-requires c κs =
+    let p = c .before .before .before .before .before .before .before .before .pre in
+    let n = c .before .field-number in
+    (p .0 .range .sums, (omega (arith, p .1 .1 .0, p .0 .counters .few), rw (toZ-ofZ w64 _ (record { sfits = n .ok })) (le-leb _ _ (n .ensures .inside))))
 
 returns : tie.Need-returns
 unfolding addField
-returns c =
-    let n = c .before .field-number in
-    let b = c .before .before .before .before in
-    let s = rw (b .addend-num2 .ensures .is, b .before .addend-num .ensures .is) at (c .before .before .before .if1 .taken) in
-    rw (s, ← c .before .before .addend-num3 .ensures .is, ← n .ensures .is) (rw (toZ-ofZ w64 _ (record { sfits = n .ok })) at (c .add-at .ensures))
+returns c shown =
+    let n = c .before .before .field-number in
+    let b = c .before .before .before .before .before in
+    let s = rw (b .addend-num2 .ensures .is, b .before .addend-num .ensures .is) at (c .before .before .before .before .if1 .taken) in
+    rw (s, ← c .before .before .before .addend-num3 .ensures .is, ← n .ensures .is) (rw (toZ-ofZ w64 _ (record { sfits = n .ok })) at (c .add-to .ensures shown))
 
 returns-2 : tie.Need-returns-2
 unfolding addField
-returns-2 c =
+returns-2 c shown =
     let b = c .before in
     let s = rw (b .addend-num2 .ensures .is, b .before .addend-num .ensures .is) at (c .if1 .left) in
     rw s refl
@@ -55,6 +55,6 @@ add-field-spec =
     (λ c. search needs)
     (λ c κs. search needs)
     field-number-requires
-    add-at-requires
+    add-to-requires
     returns
     returns-2)

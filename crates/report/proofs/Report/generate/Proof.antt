@@ -1,40 +1,22 @@
--- `report::Report::generate` meets its contract: refusal 1 by the rules in order, then the call on the tables.
+-- `report::Report::generate` meets its contract: refusal 1 where D1 is broken, else the call in a table of one of two sizes.
 -- Assumes nothing.
-use mathlib.Core.Path.{_≡_, refl, sym, ap, _∙_}
+use Prim.Native.Nat.{_≤_}
+use mathlib.Core.Path.{sym, _∙_}
+use native.Mathlib.Omega.{arith}
 use borrow.Author.Needs.{needs}
-use lib.ListN.{length}
 use Rattle.file.proofs.Laws.{passed, failed}
-use Rattle.description.proofs.Answer.{d1-broken, literals-in, length-table}
-use Rattle.report.proofs.Works.{judged-so, accepted-so, generate-so, generate-broken}
+use Rattle.tables.proofs.Says.{long, numbers-in}
+use Rattle.description.proofs.Answer.{d1-broken, front}
+use Rattle.report.proofs.Works.{generate-broken}
 use Rattle.report.proofs.Report.generate.Statement.{statement}
 use Rattle.report.proofs.Report.generate.Tie as tie
 
 returns : tie.Need-returns
 returns c = generate-broken _ _ (d1-broken _ (failed (c .before .before .before .rule-d1 .ensures) (c .before .enum-told2 .given .1))) _ _ (c .refusal .ensures) _ _ _
 
-literals-of-requires : tie.Need-literals-of-requires
-literals-of-requires c κs = literals-in _ (passed (c .before .before .before .before .before .rule-d1 .ensures) (c .before .before .before .enum-told .given .1))
-
-slice-aggregate-judge : tie.Need-slice-aggregate-judge
-slice-aggregate-judge c = sym (ap length (c .before .before .unpack .ensures) ∙ length-table _)
-
-slice-aggregate-generate-on : tie.Need-slice-aggregate-generate-on
-slice-aggregate-generate-on c = sym (ap length (c .before .before .before .before .before .before .unpack .ensures) ∙ length-table _)
-
-generate-on-requires : tie.Need-generate-on-requires
-generate-on-requires c κs =
-    accepted-so _ _ _ _ (c .before .before .before .before .before .before .before .before .before .head-of .ensures) (c .before .before .before .before .before .before .before .unpack .ensures) (c .before .before .before .before .before .before .literals-of .ensures) (passed (c .before .before .before .before .before .before .before .before .before .before .before .before .rule-d1 .ensures) (c .before .before .before .before .before .before .before .before .before .before .enum-told .given .1)) (sym (c .before .before .enum-told3 .given .1) ∙ c .before .before .before .before .judge .ensures)
-
-returns-2 : tie.Need-returns-2
-returns-2 c =
-    generate-broken _ _
-    (judged-so _ _ _ _ (c .before .before .before .before .before .before .before .before .before .head-of .ensures) (c .before .before .before .before .before .before .before .unpack .ensures) (c .before .before .before .before .before .before .literals-of .ensures) (passed (c .before .before .before .before .before .before .before .before .before .before .before .before .rule-d1 .ensures) (c .before .before .before .before .before .before .before .before .before .before .enum-told .given .1)) _ (sym (c .before .before .judged .given .1) ∙ c .before .before .before .before .judge .ensures))
-    _ _ (c .refusal2 .ensures) _ _ _
-
-returns-3 : tie.Need-returns-3
-returns-3 c =
-    generate-so _ _ _ _ (c .before .before .before .before .before .before .before .before .before .before .before .before .head-of .ensures) (c .before .before .before .before .before .before .before .before .before .before .unpack .ensures) (c .before .before .before .before .before .before .before .before .before .literals-of .ensures) (passed (c .before .before .before .before .before .before .before .before .before .before .before .before .before .before .before .rule-d1 .ensures) (c .before .before .before .before .before .before .before .before .before .before .before .before .before .enum-told .given .1))
-    _ _ (sym (c .before .before .before .before .before .enum-told3 .given .1) ∙ c .before .before .before .before .before .before .before .judge .ensures) _ _ _ _ (c .before .before .generate-on .ensures)
+-- the numbers fit an array of the most
+few : tie.Need-array-borrow-prefix-t-2
+few c = let n = numbers-in _ (passed (c .before .before .before .before .rule-d1 .ensures) (c .before .before .enum-told .given .1)) in omega (arith, n .few, c .before .numbers-of .ensures)
 
 pub generate-spec : {M : Type 1} → statement M
 generate-spec =
@@ -45,16 +27,14 @@ generate-spec =
     (λ c. search needs)
     (λ c κs. search needs)
     returns
-    (λ c κs. search needs)
-    (λ c κs. search needs)
-    literals-of-requires
-    slice-aggregate-judge
-    (λ c κs. search needs)
+    (λ c κs. long _ (passed (c .before .before .rule-d1 .ensures) (c .enum-told .given .1)))
     (λ c. search needs)
-    (λ c κs. search needs)
+    (λ c. sym (front _ 512 1 (c .before .if1 .taken)))
+    (λ c κs. (passed (c .before .before .before .before .before .before .rule-d1 .ensures) (c .before .before .before .before .enum-told .given .1), front _ 512 1 (c .before .before .if1 .taken) ∙ c .before .before .before .numbers-of .ensures))
     (λ c. search needs)
-    slice-aggregate-generate-on
-    generate-on-requires
-    returns-2
+    (λ c. c .before .before .before .generate-in .ensures)
+    few
+    (λ c. sym (front _ 4392 1 (few (c .before))))
+    (λ c κs. (passed (c .before .before .before .before .before .before .rule-d1 .ensures) (c .before .before .before .before .enum-told .given .1), front _ 4392 1 (few (c .before .before)) ∙ c .before .before .before .numbers-of .ensures))
     (λ c. search needs)
-    returns-3)
+    (λ c. c .before .before .before .generate-in2 .ensures))

@@ -1,41 +1,22 @@
--- `report::Report::initiate` meets its contract: refusal 1 by the rules in order, then the call on the tables.
+-- `report::Report::initiate` meets its contract: refusal 1 where D1 is broken, else the call in a table of one of two sizes.
 -- Assumes nothing.
-use mathlib.Core.Path.{_≡_, refl, sym, ap, _∙_}
+use Prim.Native.Nat.{_≤_}
+use mathlib.Core.Path.{sym, _∙_}
+use native.Mathlib.Omega.{arith}
 use borrow.Author.Needs.{needs}
-use lib.ListN.{length}
 use Rattle.file.proofs.Laws.{passed, failed}
-use Rattle.description.proofs.Answer.{d1-broken, literals-in, length-table}
-use Rattle.report.proofs.Works.{judged-so, accepted-so, initiate-so, initiate-broken}
+use Rattle.tables.proofs.Says.{long, numbers-in}
+use Rattle.description.proofs.Answer.{d1-broken, front}
+use Rattle.report.proofs.Works.{initiate-broken}
 use Rattle.report.proofs.Report.initiate.Statement.{statement}
 use Rattle.report.proofs.Report.initiate.Tie as tie
 
 returns : tie.Need-returns
 returns c = initiate-broken _ _ (d1-broken _ (failed (c .before .before .before .rule-d1 .ensures) (c .before .enum-told2 .given .1))) _ _ (c .refusal .ensures)
 
-slice-aggregate-judge : tie.Need-slice-aggregate-judge
-slice-aggregate-judge c = sym (ap length (c .before .unpack .ensures) ∙ length-table _)
-
-literals-of-requires : tie.Need-literals-of-requires
-literals-of-requires c κs = literals-in _ (passed (c .before .before .before .before .before .before .rule-d1 .ensures) (c .before .before .before .before .enum-told .given .1))
-
-slice-aggregate-initiate-on : tie.Need-slice-aggregate-initiate-on
-slice-aggregate-initiate-on c = sym (ap length (c .before .before .before .before .before .before .unpack .ensures) ∙ length-table _)
-
-initiate-on-requires : tie.Need-initiate-on-requires
-initiate-on-requires c κs =
-    let a = accepted-so _ _ _ _ (c .before .before .before .before .before .before .before .before .head-of .ensures) (c .before .before .before .before .before .before .unpack .ensures) (c .before .before .before .before .literals-of .ensures) (passed (c .before .before .before .before .before .before .before .before .before .before .before .rule-d1 .ensures) (c .before .before .before .before .before .before .before .before .before .enum-told .given .1)) (sym (c .before .enum-told3 .given .1) ∙ c .before .before .before .judge .ensures) in
-    (a .fieldsIn, a .record256)
-
-returns-2 : tie.Need-returns-2
-returns-2 c =
-    initiate-broken _ _
-    (judged-so _ _ _ _ (c .before .before .before .before .before .before .before .before .before .head-of .ensures) (c .before .before .before .before .before .before .before .unpack .ensures) (c .before .before .before .before .before .literals-of .ensures) (passed (c .before .before .before .before .before .before .before .before .before .before .before .before .rule-d1 .ensures) (c .before .before .before .before .before .before .before .before .before .before .enum-told .given .1)) _ (sym (c .before .before .judged .given .1) ∙ c .before .before .before .before .judge .ensures))
-    _ _ (c .refusal2 .ensures)
-
-returns-3 : tie.Need-returns-3
-returns-3 c =
-    initiate-so _ _ _ _ (c .before .before .before .before .before .before .before .before .before .head-of .ensures) (c .before .before .before .before .before .before .before .unpack .ensures) (c .before .before .before .before .before .literals-of .ensures) (passed (c .before .before .before .before .before .before .before .before .before .before .before .before .rule-d1 .ensures) (c .before .before .before .before .before .before .before .before .before .before .enum-told .given .1))
-    _ _ (sym (c .before .before .enum-told3 .given .1) ∙ c .before .before .before .before .judge .ensures) (c .initiate-on .ensures)
+-- the numbers fit an array of the most
+few : tie.Need-array-borrow-prefix-t-2
+few c = let n = numbers-in _ (passed (c .before .before .before .before .rule-d1 .ensures) (c .before .before .enum-told .given .1)) in omega (arith, n .few, c .before .numbers-of .ensures)
 
 pub initiate-spec : {M : Type 1} → statement M
 initiate-spec =
@@ -46,15 +27,12 @@ initiate-spec =
     (λ c. search needs)
     (λ c κs. search needs)
     returns
-    (λ c κs. search needs)
-    (λ c κs. search needs)
-    slice-aggregate-judge
-    literals-of-requires
-    (λ c κs. search needs)
+    (λ c κs. long _ (passed (c .before .before .rule-d1 .ensures) (c .enum-told .given .1)))
     (λ c. search needs)
-    (λ c κs. search needs)
-    (λ c. search needs)
-    slice-aggregate-initiate-on
-    initiate-on-requires
-    returns-2
-    returns-3)
+    (λ c. sym (front _ 512 1 (c .before .if1 .taken)))
+    (λ c κs. (passed (c .before .before .before .before .before .rule-d1 .ensures) (c .before .before .before .enum-told .given .1), front _ 512 1 (c .before .if1 .taken) ∙ c .before .before .numbers-of .ensures))
+    (λ c. c .before .initiate-in .ensures)
+    few
+    (λ c. sym (front _ 4392 1 (few (c .before))))
+    (λ c κs. (passed (c .before .before .before .before .before .rule-d1 .ensures) (c .before .before .before .enum-told .given .1), front _ 4392 1 (few (c .before)) ∙ c .before .before .numbers-of .ensures))
+    (λ c. c .before .initiate-in2 .ensures))

@@ -1,0 +1,70 @@
+-- `report_c::tell` meets its contract: the answer's three numbers, and the state where it is accepted.
+-- Assumes nothing.
+use mathlib.Core.Path.{_≡_, refl, sym, _∙_}
+use borrow.Author.Needs.{needs}
+use borrow.Author.Tests.{eq-eqb, ne-eqb}
+use Rattle.report.specs.Verdict.{number}
+use Rattle.report_c.proofs.Laws.{three, accepted-stored, refused-stored}
+use Rattle.report_c.proofs.tell.Statement.{statement}
+use Rattle.report_c.proofs.tell.Tie as tie
+
+number-requires : tie.Need-number-requires
+number-requires c κs = search needs
+
+slice-write-answer : tie.Need-slice-write-answer
+slice-write-answer c = search needs
+
+extra-requires : tie.Need-extra-requires
+extra-requires c κs = search needs
+
+slice-write-answer-2 : tie.Need-slice-write-answer-2
+slice-write-answer-2 c = search needs
+
+slice-write-answer-3 : tie.Need-slice-write-answer-3
+slice-write-answer-3 c = search needs
+
+encode-requires : tie.Need-encode-requires
+encode-requires c κs = search needs
+
+same-length : tie.Need-same-length
+same-length c = search needs
+
+same-length-2 : tie.Need-same-length-2
+same-length-2 c = search needs
+
+returns : tie.Need-returns
+returns c =
+    let a = c .before .before .before .before .before .before .before .before .before .before .args .a in
+    let e = c .before .before .before .before .before .before .before .number .ensures in
+    record {
+      stateIs = c .before .before .encode .ensures ∙ accepted-stored (c .before .before .before .before .before .before .before .before .before .before .args .state .now) a (eq-eqb (number (a .verdict)) 0 (sym e ∙ c .before .before .before .before .before .if1 .taken));
+      answerIs = three (c .before .before .before .before .before .before .before .before .before .before .args .answer .now) (c .before .before .before .before .before .before .before .before .before .before .pre .1) e (c .before .before .before .before .before .before .extra .ensures) refl;
+    }
+
+same-length-3 : tie.Need-same-length-3
+same-length-3 c = search needs
+
+returns-2 : tie.Need-returns-2
+returns-2 c =
+    let a = c .before .before .before .before .before .args .a in
+    let e = c .before .before .number .ensures in
+    record {
+      stateIs = refused-stored (c .before .before .before .before .before .args .state .now) a (ne-eqb (number (a .verdict)) 0 (λ z. c .if1 .left (e ∙ z)));
+      answerIs = three (c .before .before .before .before .before .args .answer .now) (c .before .before .before .before .before .pre .1) e (c .before .extra .ensures) refl;
+    }
+
+pub tell-spec : {M : Type 1} → statement M
+tell-spec =
+    tie.close
+    (tie.spec
+    number-requires
+    slice-write-answer
+    extra-requires
+    slice-write-answer-2
+    slice-write-answer-3
+    encode-requires
+    same-length
+    same-length-2
+    returns
+    same-length-3
+    returns-2)

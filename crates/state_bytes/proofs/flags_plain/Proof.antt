@@ -1,0 +1,40 @@
+-- `state_bytes::flags_plain` meets its contract. The invariant: every byte passed is 0 or 1.
+-- Assumes nothing.
+use Prim.Native.Nat.{ℕ, _+_, _-_, _≤_}
+use mathlib.Core.Path.{_≡_, refl, ap, _∙_}
+use native.Mathlib.Omega.{arith}
+use borrow.Author.Needs.{needs}
+use lib.Dec.{leb}
+use lib.ListN.{getD}
+use Rattle.counts.specs.Below.{allBelow}
+use Rattle.counts.proofs.Laws.{all-next}
+use Rattle.state_bytes.specs.Bytes.{flagsPlain}
+use Rattle.state_bytes.proofs.flags_plain.Statement.{statement}
+use Rattle.state_bytes.proofs.flags_plain.Tie as tie
+
+abbrev Inv-loop : tie.InvT-loop
+Inv-loop b ok₀ i₀ ok i = (i ≤ 9) × (ok ≡ allBelow i (λ k. leb (getD b (9 + k) 0) 1))
+
+abbrev μ-loop : tie.MeasureT-loop
+μ-loop b ok₀ i₀ ok i = 9 - i
+
+loop-holds : tie.Need-loop-holds Inv-loop μ-loop
+unfolding allBelow
+loop-holds c = search needs
+
+loop-again : tie.Need-loop-again Inv-loop μ-loop
+loop-again c =
+    let l = c .before .before .loop in
+    let b = c .before .before .before .args .b .now in
+    (omega arith, all-next (λ k. leb (getD b (9 + k) 0) 1) (l .i) (l .inv .1) refl)
+
+returns : tie.Need-returns Inv-loop μ-loop
+unfolding flagsPlain
+returns c =
+    let e : c .before .loop .i ≡ 9 = omega arith in
+    cc
+
+pub flags-plain-spec : {M : Type 1} → statement M
+flags-plain-spec =
+    tie.close
+    (tie.spec Inv-loop μ-loop loop-holds (λ c. omega arith) (λ c. omega arith) (λ c. omega arith) (λ c. omega arith) loop-again returns)

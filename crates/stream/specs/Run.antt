@@ -1,0 +1,66 @@
+-- Many records, one behind the other: GENERATE for each as detail 0, into what is left of the output, until one is refused.
+use Prim.Native.Nat.{ℕ, zero, suc, _+_, _≤_}
+use mathlib.Core.Path.{_≡_}
+use mathlib.Core.Bool.{Bool, cond, _&&_}
+use mathlib.Core.List.{List, _++_}
+use lib.Dec.{leb, eqb}
+use lib.ListN.{length, take, drop}
+use Rattle.report.specs.declared.Report.{Report}
+use Rattle.report.specs.declared.Verdict.{Verdict}
+use Rattle.report.specs.declared.Verdict.the-variants.{Accepted}
+use Rattle.report.specs.Verdict.{number}
+use Rattle.report.specs.Result.{Result}
+use Rattle.report.specs.Calls.{generate}
+use Rattle.stream.specs.declared.Run.{Run}
+
+-- how far it came, and the output
+pub record Ran : Type 0 where
+  pub run : Run
+  pub out : List ℕ
+
+abbrev pub accepted : Verdict → Bool
+accepted v = eqb (number v) 0
+
+-- a record accepted: its lines stand behind those before it
+abbrev pub further : ℕ → Ran → Result → Ran
+further size x y = record {
+  run = record { done = x .run .done + size; count = x .run .count + y .answer .count; verdict = Accepted; report = y .answer .report };
+  out = take (x .run .count) (x .out) ++ y .out;
+}
+
+-- a record refused: all stays but the verdict
+abbrev pub halted : Ran → Result → Ran
+halted x y = record {
+  run = record { done = x .run .done; count = x .run .count; verdict = y .answer .verdict; report = x .run .report };
+  out = x .out;
+}
+
+abbrev pub after : ℕ → Ran → Result → Ran
+after size x y = cond (accepted (y .answer .verdict)) (further size x y) (halted x y)
+
+-- the next record
+unfoldable pub next : List ℕ → List ℕ → ℕ → Ran → Ran
+next d rows size x = after size x (generate d (x .run .report) 0 (take size (drop (x .run .done) rows)) (drop (x .run .count) (x .out)))
+
+-- nothing is refused yet, and a whole record is left
+abbrev pub goes : List ℕ → ℕ → Ran → Bool
+goes rows size x = accepted (x .run .verdict) && leb 1 size && leb (x .run .done + size) (length rows)
+
+-- so many records, or fewer
+unfoldable pub ran : List ℕ → List ℕ → ℕ → ℕ → Ran → Ran
+ran d rows size zero x = x
+ran d rows size (suc n) x = cond (goes rows size x) (ran d rows size n (next d rows size x)) x
+
+abbrev pub begun : Report → List ℕ → Ran
+begun s out = record { run = record { done = 0; count = 0; verdict = Accepted; report = s }; out = out }
+
+-- all of them: a record has at least one byte
+unfoldable pub generateAll : List ℕ → List ℕ → ℕ → Report → List ℕ → Ran
+generateAll d rows size s out = ran d rows size (length rows) (begun s out)
+
+-- what the call returns and leaves; the bytes it speaks of are inside
+pub record Comes (x : Ran) (r : Run) (out rows : List ℕ) : Type 0 where
+  pub runIs : r ≡ x .run
+  pub outIs : out ≡ x .out
+  pub inRows : r .done ≤ length rows
+  pub inOut : r .count ≤ length out

@@ -1,0 +1,13 @@
+-- `tables::item_past` meets its contract, number by number.
+-- Assumes nothing.
+use borrow.Author.Needs.{needs}
+use Rattle.tables.proofs.item_past.Statement.{statement}
+use Rattle.tables.proofs.item_past.Tie as tie
+
+returns : tie.Need-returns
+returns c = cc
+
+pub item-past-spec : {M : Type 1} → statement M
+item-past-spec =
+    tie.close
+    (tie.spec (λ c κs. search needs) (λ c. search needs) (λ c κs. search needs) (λ c. search needs) (λ c κs. search needs) (λ c. search needs) (λ c κs. search needs) (λ c. search needs) (λ c κs. search needs) (λ c. search needs) (λ c κs. search needs) returns)
