@@ -1,0 +1,3 @@
+-- The whole run of document 01.
+pub mod Run
+pub mod Instance
