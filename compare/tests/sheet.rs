@@ -207,14 +207,19 @@ fn tells_its_progress() {
     assert_eq!(told.sheet, agrees(&desc, &rows).sheet);
 }
 
+/// One line, whether the output is written at the end or in the middle of the rows.
 #[test]
 fn says_that_it_cannot_write() {
-    let Ok(full) = File::options().write(true).open("/dev/full") else {
-        return;
-    };
-    let mut command = command();
-    command.args(["whole_run.desc", "whole_run.rows"].map(example)).stdout(Stdio::from(full));
-    assert_eq!(finished(command), Written::errors(filled(NOT_WRITTEN, &[])));
+    let folder = Folder::new("full");
+    let many = folder.file("rows", &b"AA+005".repeat(25_000));
+    for rows in [example("whole_run.rows"), many] {
+        let Ok(full) = File::options().write(true).open("/dev/full") else {
+            return;
+        };
+        let mut command = command();
+        command.args([example("whole_run.desc"), rows]).stdout(Stdio::from(full));
+        assert_eq!(finished(command), Written::errors(filled(NOT_WRITTEN, &[])));
+    }
 }
 
 // ---- refusals

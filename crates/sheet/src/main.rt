@@ -131,13 +131,15 @@ fn short_row(d: &[u8], rec: &[u8], report: Report, out: &mut [u8]) -> Verdict {
     a.verdict
 }
 
-// A part of the file: the state, output bytes that wait, rows accepted, record bytes done, and what stopped it.
+// A part of the file: the state, output bytes that wait, rows accepted, record bytes done, what stopped it, and whether
+// the output could be written.
 struct Part {
     report: Report,
     waiting: usize,
     rows: u64,
     done: usize,
     verdict: Verdict,
+    written: bool,
 }
 
 // Whether room can be made: by writing what waits and trying the row again, since a refusal touched nothing.
@@ -160,6 +162,7 @@ fn run_part(d: &[u8], rows: &[u8], size: usize, s: Sheet, out: &mut [u8]) -> Par
     let mut done = s.rows;
     let mut k = 0;
     let mut verdict = Verdict::Room;
+    let mut written = true;
     let mut turns = u64::MAX;
     while turns > 0 {
         turns -= 1;
@@ -173,7 +176,8 @@ fn run_part(d: &[u8], rows: &[u8], size: usize, s: Sheet, out: &mut [u8]) -> Par
         if !wants_room(verdict, at) {
             break;
         }
-        if !flush(out, at) {
+        written = flush(out, at);
+        if !written {
             break;
         }
         at = 0;
@@ -184,6 +188,7 @@ fn run_part(d: &[u8], rows: &[u8], size: usize, s: Sheet, out: &mut [u8]) -> Par
         rows: done,
         done: k,
         verdict,
+        written,
     }
 }
 
@@ -197,6 +202,9 @@ fn print_part(d: &[u8], rows: &[u8], size: usize, s: Sheet, out: &mut [u8]) -> S
     let k = p.done;
     let at = p.waiting;
     let v = p.verdict;
+    if !p.written {
+        return stopped(report, p.rows);
+    }
     match v {
         Verdict::Accepted => {
             if k < rows.len() {
@@ -239,16 +247,16 @@ fn after_part(fd: i32, path: &[u8], is_full: bool, s: Sheet) -> Sheet
         return s;
     }
     let report = s.report;
-    if is_unreadable(fd) {
+    let is_broken = is_unreadable(fd);
+    if is_broken {
         tell_failure(path);
-        return stopped(report, s.rows);
     }
     Sheet {
         report,
         waiting: s.waiting,
         rows: s.rows,
         more: false,
-        whole: s.whole,
+        whole: s.whole & !is_broken,
     }
 }
 
@@ -354,6 +362,8 @@ fn print_sheet(d: &[u8], fd: i32, path: &[u8], progress: bool, buffer: &mut [u8]
     let s = print_file(d, fd, path, size, start, progress, buffer, out);
     if s.whole {
         finish(d, s, out);
+    } else {
+        flush(out, s.waiting);
     }
 }
 
