@@ -20,16 +20,12 @@ use Rattle.state.proofs.States.{idle-facts, idle-ok, started-ok, running-facts,
 use Rattle.state.proofs.Kept.{padded-zero, padded-formed, padded-controls, flagsSet-beyond}
 use Rattle.report.specs.declared.Report.{Report}
 use Rattle.report.specs.State.{freshAt, keeps, placeOf}
+use Rattle.report.proofs.Ready.{zeros-good}
 use Rattle.book.proofs.Laws.{RunFacts, IdleFacts, good-sums, Laws}
 
 module _ (h : Head) (t lits : List ℕ) (A : Accepted h t lits) where
   page-in : PageIn h
   page-in = record { body = omega (arith, A .pageFits .fdLd, A .pageFits .ldFt); foot = A .pageFits .ftPage; short = A .pageFits .page999 }
-
-  zeros-at : (n i : ℕ) → getD (replicate n (pos 0)) i (pos 0) ≡ pos 0
-  zeros-at Prim.Native.Nat.zero i = refl
-  zeros-at (Prim.Native.Nat.suc n) Prim.Native.Nat.zero = refl
-  zeros-at (Prim.Native.Nat.suc n) (Prim.Native.Nat.suc i) = zeros-at n i
 
   run-facts : (s : Report) → s .phase ≡ 2 → keeps h t s ≡ true → RunFacts h t s
   unfolding frameOf
@@ -73,9 +69,6 @@ module _ (h : Head) (t lits : List ℕ) (A : Accepted h t lits) where
   idle-ok' s e f =
       rw e (idle-ok h t (s .page) (s .line) (s .seen) (s .saved) (s .sums) (s .flags) (s .kept) (record { first = f .page1; last = f .page2; onPage = f .line; small = f .saved; inRange = f .sumsIn }))
 
-  zero-range : sumsOk (replicate 32 (pos 0)) ≡ true
-  zero-range = idle-facts h t 1 0 false 0 (replicate 32 (pos 0)) (replicate 8 false) (replicate 256 0) (fresh-ok h t) .inRange
-
   pub laws : Laws h t
   laws = record {
     run-facts = run-facts;
@@ -89,7 +82,7 @@ module _ (h : Head) (t lits : List ℕ) (A : Accepted h t lits) where
     first-sums = λ row d sums g. first-good h t (A .countersIn .few) sums g row d .sums;
     later-sums = λ row d b sums g. later-good h t (A .countersIn .few) sums g row d b .sums;
     last-sums = λ sums g. last-good h t (A .countersIn .few) sums g .sums;
-    zero-sums = record { range = zero-range; long = length-replicate 32 (pos 0); beyond = λ i m. zeros-at 32 i };
+    zero-sums = zeros-good (h .counters);
     padded-formed = λ row l e. padded-formed row (A .fieldsIn) (omega arith) ∙ e;
     padded-end = λ row l i m n. padded-zero row i (omega arith) n;
     padded-same = λ row l. padded-controls row (A .fieldsIn) (omega arith) (A .controlsIn);

@@ -4,7 +4,6 @@ use mathlib.Core.Path.{_≡_}
 use mathlib.Core.List.{List, [], _∷_, _++_}
 use mathlib.Core.Logic.{_⊎_}
 use mathlib.Core.Bool.{Bool, true, false}
-use lib.Dec.{eqb}
 use lib.ListN.{take}
 use Rattle.tables.specs.declared.Head.{Head}
 use Rattle.tables.specs.Head.{headOf}
@@ -17,7 +16,7 @@ use Rattle.pagination.specs.Rising.{Rises}
 use Rattle.pagination.specs.Parts.{InPart}
 use Rattle.report.specs.declared.Report.{Report}
 use Rattle.report.specs.declared.Verdict.{Verdict}
-use Rattle.report.specs.Verdict.{number}
+use Rattle.report.specs.Verdict.{number, accepted}
 use Rattle.report.specs.State.{freshAt}
 use Rattle.report.specs.Result.{Result}
 use Rattle.report.specs.Calls.{rowWork, lastWork}
@@ -62,7 +61,7 @@ module _ (d : List ℕ) where
 
   -- all that the book sees of the calls
   abbrev pub taken : Result → Bool
-  taken r = eqb (number (r .answer .verdict)) 0
+  taken r = accepted (r .answer .verdict)
 
   unfoldable pub events : List Done → List (Event (headOf d) (table d))
   events [] = []

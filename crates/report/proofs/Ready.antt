@@ -44,7 +44,7 @@ zeros-at (suc n) zero = refl
 zeros-at (suc n) (suc i) = zeros-at n i
 
 -- sums that are all 0
-zeros-good : (n : ℕ) → GoodSums n (replicate 32 (pos 0))
+pub zeros-good : (n : ℕ) → GoodSums n (replicate 32 (pos 0))
 unfolding sumsOk allBelow
 zeros-good n = record { range = refl; long = length-replicate 32 (pos 0); beyond = λ i m. zeros-at 32 i }
 

@@ -1,5 +1,7 @@
 -- The paper's number and extra number for each verdict.
 use Prim.Native.Nat.{ℕ}
+use mathlib.Core.Bool.{Bool}
+use lib.Dec.{eqb}
 use Rattle.report.specs.declared.Verdict.{Verdict}
 use Rattle.report.specs.declared.Verdict.the-variants.{Accepted, Description, State, Phase, Detail, Length, Field, Sum, Pages, Room}
 
@@ -15,6 +17,9 @@ number (Field i) = 6
 number Sum = 7
 number Pages = 8
 number Room = 9
+
+abbrev pub accepted : Verdict → Bool
+accepted v = eqb (number v) 0
 
 -- "first broken rule, 1 to 8"; "first such field"; else 0
 abbrev pub extra : Verdict → ℕ

@@ -9,9 +9,8 @@ use native.Mathlib.Omega.{arith}
 use native.Mathlib.Nat.{zero-add}
 use borrow.Author.Tests.{ltb-true, ltb-false, lt-ltb, le-ltb}
 use lib.IntN.{ℤ, pos, negsuc, natAbs, _-ℤ_}
-use borrow.Author.Count.{below-more}
 use lib.ListN.{length, getD, set, take, drop, replicate, length-append, length-drop, length-replicate, drop-of-length-le}
-use lib.Seq.{drop-cons, take-all, getD-set-same, getD-set-other}
+use lib.Seq.{drop-cons, take-all}
 use lib.Signed.{mag, ltZ}
 use mir.Syntax.{w64}
 use mir.Val.{SFits, toZ, ofZ}
@@ -81,14 +80,6 @@ pub length-sumBytes : (sums : List ℤ) → length (sumBytes sums) ≡ 8 * lengt
 unfolding sumBytes
 length-sumBytes [] = refl
 length-sumBytes (z ∷ zs) = length-append (bytes8 (bits z)) (sumBytes zs) ∙ (let a = length-bytes8 (bits z) in let b = length-sumBytes zs in omega arith)
-
--- ---- an array filled from the front
-pub fill-next : {A : Type 0} (y : A) (i : ℕ) (t : List A) (x : A) (f : ℕ → A) → i < length t → x ≡ f i → ((k : ℕ) → k < i → getD t k y ≡ f k)
-    → (k : ℕ) → k < i + 1 → getD (set t i x) k y ≡ f k
-fill-next y i t x f l e h =
-    below-more (λ k. getD (set t i x) k y ≡ f k) i
-    (λ k b. getD-set-other t i k x y (λ q. let z : k < k = rw (← q) at b in omega arith) ∙ h k b)
-    (getD-set-same t i x y l ∙ e)
 
 -- ---- minus one, and down from there
 pub below-zero : (n : ℕ) → negsuc 0 -ℤ pos n ≡ negsuc n

@@ -27,11 +27,11 @@ use Rattle.report.specs.declared.Verdict.{Verdict}
 use Rattle.report.specs.declared.Verdict.the-variants.{Accepted, Description, State, Phase, Detail, Length, Field, Sum, Pages, Room}
 use Rattle.report.specs.declared.Tried.{Tried}
 use Rattle.report.specs.declared.Tried.the-variants.{Passed, Refused}
-use Rattle.report.specs.Verdict.{number}
+use Rattle.report.specs.Verdict.{number, accepted}
 use Rattle.report.specs.declared.Answer.{Answer}
 use Rattle.report.specs.Result.{Result, Returns, Work, refuse, answered, moved, settled}
 use Rattle.report.specs.Calls.{rowWork, rowTried, unless, ifAccepted, generatedOn, generate}
-use Rattle.stream.specs.Run.{Ran, accepted, further, halted, after, next, goes, ran, begun, generateAll}
+use Rattle.stream.specs.Run.{Ran, further, halted, after, next, goes, ran, begun, generateAll}
 
 and-false : (a b : Bool) → (a && b && false) ≡ false
 and-false true true = refl

@@ -3,12 +3,11 @@ use Prim.Native.Nat.{ℕ, zero, suc, _+_, _≤_}
 use mathlib.Core.Path.{_≡_}
 use mathlib.Core.Bool.{Bool, cond, _&&_}
 use mathlib.Core.List.{List, _++_}
-use lib.Dec.{leb, eqb}
+use lib.Dec.{leb}
 use lib.ListN.{length, take, drop}
 use Rattle.report.specs.declared.Report.{Report}
-use Rattle.report.specs.declared.Verdict.{Verdict}
 use Rattle.report.specs.declared.Verdict.the-variants.{Accepted}
-use Rattle.report.specs.Verdict.{number}
+use Rattle.report.specs.Verdict.{accepted}
 use Rattle.report.specs.Result.{Result}
 use Rattle.report.specs.Calls.{generate}
 use Rattle.stream.specs.declared.Run.{Run}
@@ -17,9 +16,6 @@ use Rattle.stream.specs.declared.Run.{Run}
 pub record Ran : Type 0 where
   pub run : Run
   pub out : List ℕ
-
-abbrev pub accepted : Verdict → Bool
-accepted v = eqb (number v) 0
 
 -- a record accepted: its lines stand behind those before it
 abbrev pub further : ℕ → Ran → Result → Ran
@@ -54,7 +50,7 @@ ran d rows size (suc n) x = cond (goes rows size x) (ran d rows size n (next d r
 abbrev pub begun : Report → List ℕ → Ran
 begun s out = record { run = record { done = 0; count = 0; verdict = Accepted; report = s }; out = out }
 
--- all of them: a record has at least one byte
+-- "all rows as detail 0": no more records than bytes, since a record has at least one
 unfoldable pub generateAll : List ℕ → List ℕ → ℕ → Report → List ℕ → Ran
 generateAll d rows size s out = ran d rows size (length rows) (begun s out)
 

@@ -8,8 +8,9 @@ use borrow.Author.Count.{below-more}
 use lib.ListN.{length, getD, set}
 use lib.Seq.{getD-set-same, getD-set-other}
 
-pub fill-next : (i : ℕ) (t : List ℕ) (x : ℕ) (f : ℕ → ℕ) → i < length t → x ≡ f i → ((k : ℕ) → k < i → getD t k 0 ≡ f k) → (k : ℕ) → k < i + 1 → getD (set t i x) k 0 ≡ f k
-fill-next i t x f l e h =
-    below-more (λ k. getD (set t i x) k 0 ≡ f k) i
-    (λ k b. getD-set-other t i k x 0 (λ q. let z : k < k = rw (← q) at b in omega arith) ∙ h k b)
-    (getD-set-same t i x 0 l ∙ e)
+pub fill-next : {A : Type 0} (y : A) (i : ℕ) (t : List A) (x : A) (f : ℕ → A) → i < length t → x ≡ f i → ((k : ℕ) → k < i → getD t k y ≡ f k)
+    → (k : ℕ) → k < i + 1 → getD (set t i x) k y ≡ f k
+fill-next y i t x f l e h =
+    below-more (λ k. getD (set t i x) k y ≡ f k) i
+    (λ k b. getD-set-other t i k x y (λ q. let z : k < k = rw (← q) at b in omega arith) ∙ h k b)
+    (getD-set-same t i x y l ∙ e)

@@ -8,8 +8,8 @@ use borrow.Author.Needs.{needs}
 use borrow.Author.Count.{below-none}
 use lib.ListN.{length, getD, length-set, length-replicate}
 use Rattle.counts.proofs.Laws.{list-filled}
+use Rattle.tables.proofs.Fill.{fill-next}
 use Rattle.state_bytes.specs.Bytes.{flagAt}
-use Rattle.state_bytes.proofs.Laws.{fill-next}
 use Rattle.state_bytes.proofs.flags_of.Statement.{statement}
 use Rattle.state_bytes.proofs.flags_of.Tie as tie
 

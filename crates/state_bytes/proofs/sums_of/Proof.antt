@@ -10,8 +10,8 @@ use lib.ListN.{length, getD, length-set}
 use mir.Syntax.{w64}
 use mir.ValLaws.{toZ-ofZ}
 use Rattle.counts.proofs.Laws.{list-filled}
+use Rattle.tables.proofs.Fill.{fill-next}
 use Rattle.state_bytes.specs.Numbers.{number8, ofBits}
-use Rattle.state_bytes.proofs.Laws.{fill-next}
 use Rattle.state_bytes.proofs.sums_of.Statement.{statement}
 use Rattle.state_bytes.proofs.sums_of.Tie as tie
 

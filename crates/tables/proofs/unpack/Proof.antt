@@ -31,7 +31,7 @@ loop-again c =
       omega arith,
       (
         length-set (a .t) (a .i) _ ∙ a .inv .1 .0,
-        fill-next (a .i) (a .t) _ (λ k. num d (2 * k)) (omega arith) (c .joined .ensures) (a .inv .1 .1),
+        fill-next 0 (a .i) (a .t) _ (λ k. num d (2 * k)) (omega arith) (c .joined .ensures) (a .inv .1 .1),
       ),
     )
 
