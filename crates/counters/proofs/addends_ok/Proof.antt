@@ -46,7 +46,7 @@ loop-holds c = search needs
 
 loop-again : tie.Need-loop-again Inv-loop μ-loop
 unfolding ownAddendOk
-loop-again c = (omega arith, all-next _ _ (c .before .before .before .loop .inv .1) (cc))
+loop-again c = (omega arith, all-next _ _ (c .before .before .before .loop .inv .1) (rw (c .new-addend .ensures, c .before .addend-ok2 .ensures, c .before .before .before .before .before .before .before .counter-num .ensures .is)))
 
 returns-3 : tie.Need-returns-3 Inv-loop μ-loop
 unfolding addendsOk
@@ -54,7 +54,7 @@ returns-3 c =
     let n = c .before .before .before .before .counter-num2 in
     let e : c .before .loop .j ≡ n .result = omega arith in
     let few = rw (n .ensures .is) at (not-false (leb 1 (n .result) && leb (n .result) 8) (c .before .before .before .if1 .left)) in
-    rw few (cc)
+    rw (few, c .before .loop .inv .1, e, n .ensures .is)
 
 pub addends-ok-spec : {M : Type 1} → statement M
 addends-ok-spec =

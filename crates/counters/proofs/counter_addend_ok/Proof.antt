@@ -7,7 +7,7 @@ use Rattle.counters.proofs.counter_addend_ok.Tie as tie
 
 returns : tie.Need-returns
 unfolding counterAddendOk
-returns c = cc
+returns c = rw (c .feeds-ok .ensures, c .before .wide .ensures .is, c .before .before .addend-num2 .ensures .is, c .before .before .before .addend-num .ensures .is)
 
 pub counter-addend-ok-spec : {M : Type 1} → statement M
 counter-addend-ok-spec = tie.close (tie.spec (λ c κs. search needs) (λ c κs. search needs) (λ c κs. search needs) (λ c κs. search needs) returns)

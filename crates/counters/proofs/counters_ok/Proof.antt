@@ -22,12 +22,12 @@ loop-holds c = search needs
 
 loop-again : tie.Need-loop-again Inv-loop μ-loop
 unfolding counterOk
-loop-again c = (omega arith, all-next _ _ (c .before .before .before .loop .inv .1) (cc))
+loop-again c = (omega arith, all-next _ _ (c .before .before .before .loop .inv .1) (rw (c .addends-ok .ensures, c .before .footing-ok .ensures)))
 
 returns : tie.Need-returns Inv-loop μ-loop
 returns c =
     let e : c .before .loop .k ≡ c .before .before .wide .result = omega arith in
-    cc
+    rw (c .before .loop .inv .1, e, c .before .before .wide .ensures .is)
 
 pub counters-ok-spec : {M : Type 1} → statement M
 counters-ok-spec =

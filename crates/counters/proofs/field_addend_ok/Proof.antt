@@ -7,7 +7,7 @@ use Rattle.counters.proofs.field_addend_ok.Tie as tie
 
 returns : tie.Need-returns
 unfolding fieldAddendOk
-returns c = cc
+returns c = rw (c .mask-ok .ensures, c .before .field-num .ensures .is, c .before .before .wide .ensures .is, c .before .before .before .addend-num2 .ensures .is, c .before .before .before .before .addend-num .ensures .is)
 
 pub field-addend-ok-spec : {M : Type 1} → statement M
 field-addend-ok-spec =

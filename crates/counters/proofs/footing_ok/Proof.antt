@@ -7,7 +7,7 @@ use Rattle.counters.proofs.footing_ok.Tie as tie
 
 returns : tie.Need-returns
 unfolding footingOk
-returns c = cc
+returns c = rw (c .group-num2 .ensures .is, c .before .wide .ensures .is, c .before .before .group-num .ensures .is, c .before .before .before .counter-num2 .ensures .is, c .before .before .before .before .counter-num .ensures .is)
 
 pub footing-ok-spec : {M : Type 1} → statement M
 footing-ok-spec =

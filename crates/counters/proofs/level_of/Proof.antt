@@ -5,7 +5,7 @@ use Rattle.counters.proofs.level_of.Statement.{statement}
 use Rattle.counters.proofs.level_of.Tie as tie
 
 returns : tie.Need-returns
-returns c = record { is = cc; small = search needs }
+returns c = record { is = rw (c .group-num .ensures .is, c .before .counter-num .ensures .is); small = search needs }
 
 pub level-of-spec : {M : Type 1} → statement M
 level-of-spec = tie.close (tie.spec (λ c κs. search needs) (λ c κs. search needs) returns)

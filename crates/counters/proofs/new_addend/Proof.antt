@@ -21,13 +21,13 @@ unfolding allBelow
 loop-holds c = search needs
 
 loop-again : tie.Need-loop-again Inv-loop μ-loop
-loop-again c = (omega arith, all-next _ _ (c .before .before .before .loop .inv .1) (cc))
+loop-again c = (omega arith, all-next _ _ (c .before .before .before .loop .inv .1) (rw (c .addend-num4 .ensures .is, c .before .addend-num3 .ensures .is, c .before .before .before .before .addend-num2 .ensures .is, c .before .before .before .before .before .addend-num .ensures .is)))
 
 returns : tie.Need-returns Inv-loop μ-loop
 unfolding newAddend
 returns c =
     let e : c .before .loop .i ≡ c .before .before .before .before .before .args .j = omega arith in
-    cc
+    rw (c .before .loop .inv .1, e)
 
 pub new-addend-spec : {M : Type 1} → statement M
 new-addend-spec =

@@ -7,7 +7,7 @@ use Rattle.fields.proofs.control_ok.Tie as tie
 
 returns : tie.Need-returns
 unfolding controlOk
-returns c = cc
+returns c = rw (c .differs-from-earlier .ensures, c .before .wide .ensures .is, c .before .before .control-num .ensures .is)
 
 pub control-ok-spec : {M : Type 1} → statement M
 control-ok-spec =

@@ -22,12 +22,12 @@ loop-holds c = search needs
 
 loop-again : tie.Need-loop-again Inv-loop μ-loop
 unfolding differs
-loop-again c = (omega arith, all-next _ _ (c .before .before .loop .inv .1) (cc))
+loop-again c = (omega arith, all-next _ _ (c .before .before .loop .inv .1) (rw (c .control-num .ensures .is)))
 
 returns : tie.Need-returns Inv-loop μ-loop
 returns c =
     let e : c .before .loop .j ≡ c .before .before .before .args .i = omega arith in
-    cc
+    rw (c .before .loop .inv .1, e)
 
 pub differs-from-earlier-spec : {M : Type 1} → statement M
 differs-from-earlier-spec =

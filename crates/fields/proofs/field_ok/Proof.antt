@@ -7,7 +7,7 @@ use Rattle.fields.proofs.field_ok.Tie as tie
 
 returns : tie.Need-returns
 unfolding fieldOk
-returns c = cc
+returns c = rw (c .wide .ensures .is, c .before .field-num3 .ensures .is, c .before .before .field-num2 .ensures .is, c .before .before .before .field-num .ensures .is)
 
 pub field-ok-spec : {M : Type 1} → statement M
 field-ok-spec =

@@ -15,4 +15,4 @@ add-result c = omega (arith, product (c .before .count-of .ensures .small) (c .s
 pub end-of-spec : {M : Type 1} → statement M
 end-of-spec =
     tie.close
-    (tie.spec (λ c κs. search needs) (λ c κs. search needs) (λ c κs. search needs) mul-result add-result (λ c. cc))
+    (tie.spec (λ c κs. search needs) (λ c κs. search needs) (λ c κs. search needs) mul-result add-result (λ c. rw (c .size-of .ensures .0, c .before .count-of .ensures .is, c .before .before .start-of .ensures .is)))

@@ -12,7 +12,7 @@ returns c = rw (lt-leb _ _ (c .before .if1 .taken)) (c .answer .ensures)
 
 returns-2 : tie.Need-returns-2
 unfolding ruleD1
-returns-2 c = rw (le-leb _ _ (c .before .before .before .before .if1 .left)) cc
+returns-2 c = rw (le-leb _ _ (c .before .before .before .before .if1 .left), c .answer2 .ensures, c .before .sections-ok .ensures, c .before .before .start-of .ensures .is, c .before .before .before .version .ensures .is)
 
 pub rule-d1-spec : {M : Type 1} → statement M
 rule-d1-spec =

@@ -26,7 +26,7 @@ loop-again c = (omega arith, all-next _ _ (c .before .before .loop .inv .1) (c .
 returns : tie.Need-returns Inv-loop μ-loop
 returns c =
     let e : c .before .loop .k ≡ 8 = omega arith in
-    cc
+    rw (c .before .loop .inv .1, e)
 
 pub sections-ok-spec : {M : Type 1} → statement M
 sections-ok-spec =

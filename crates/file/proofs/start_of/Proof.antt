@@ -5,7 +5,7 @@ use Rattle.file.proofs.start_of.Statement.{statement}
 use Rattle.file.proofs.start_of.Tie as tie
 
 returns : tie.Need-returns
-returns c = record { is = cc; small = search needs }
+returns c = record { is = rw (c .num-at .ensures .is, c .before .trailer-at .ensures); small = c .num-at .ensures .small }
 
 pub start-of-spec : {M : Type 1} → statement M
 start-of-spec =

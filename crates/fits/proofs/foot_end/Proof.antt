@@ -7,7 +7,7 @@ use Rattle.fits.proofs.foot_end.Tie as tie
 
 returns : tie.Need-returns
 unfolding footEnd
-returns c = record { is = cc; small = search needs }
+returns c = record { is = rw (c .last-from .ensures .is, c .before .find .ensures .0, c .before .before .wide .ensures .is); small = search needs }
 
 pub foot-end-spec : {M : Type 1} → statement M
 foot-end-spec =

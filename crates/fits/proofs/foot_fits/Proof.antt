@@ -7,7 +7,7 @@ use Rattle.fits.proofs.foot_fits.Tie as tie
 
 returns : tie.Need-returns
 unfolding footFits
-returns c = cc
+returns c = rw (c .span-of .ensures .is, c .before .choose .ensures .0, c .before .before .first-num2 .ensures .is, c .before .before .before .first-num .ensures .is, c .before .before .before .before .wide3 .ensures .is, c .before .before .before .before .before .wide2 .ensures .is, c .before .before .before .before .before .before .wide .ensures .is)
 
 pub foot-fits-spec : {M : Type 1} → statement M
 foot-fits-spec =

@@ -7,7 +7,7 @@ use Rattle.fits.proofs.head_end.Tie as tie
 
 returns : tie.Need-returns
 unfolding headEnd
-returns c = record { is = cc; small = search needs }
+returns c = record { is = rw (c .last-from .ensures .is, c .before .find .ensures .0, c .before .before .above-head .ensures .is); small = search needs }
 
 pub head-end-spec : {M : Type 1} → statement M
 head-end-spec =

@@ -7,7 +7,7 @@ use Rattle.fits.proofs.head_fits.Tie as tie
 
 returns : tie.Need-returns
 unfolding headFits
-returns c = cc
+returns c = rw (c .span-of .ensures .is, c .before .start-from .ensures .is, c .before .before .wide2 .ensures .is, c .before .before .before .wide .ensures .is)
 
 pub head-fits-spec : {M : Type 1} → statement M
 head-fits-spec =

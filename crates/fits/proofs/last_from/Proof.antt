@@ -9,7 +9,7 @@ use Rattle.fits.proofs.last_from.Tie as tie
 returns : tie.Need-returns
 unfolding lastFrom
 returns c =
-    record { is = rw (← c .before .before .before .present-of .ensures, c .before .before .if1 .taken) (cc); small = omega arith }
+    record { is = rw (← c .before .before .before .present-of .ensures, c .before .before .if1 .taken, c .span-of .ensures .is, c .before .start-from .ensures .is); small = omega arith }
 
 returns-2 : tie.Need-returns-2
 unfolding lastFrom

@@ -12,7 +12,7 @@ returns c = rw (← c .before .group-num .ensures .is, c .if1 .taken)
 
 returns-2 : tie.Need-returns-2
 unfolding linesOk
-returns-2 c = rw (← c .before .before .before .before .group-num .ensures .is, ne-eqb _ _ (c .before .before .before .if1 .left)) (cc)
+returns-2 c = rw (c .fits-page .ensures, c .before .later-ok .ensures, c .before .before .first-ok .ensures, ← c .before .before .before .before .group-num .ensures .is, ne-eqb _ _ (c .before .before .before .if1 .left))
 
 pub lines-ok-spec : {M : Type 1} → statement M
 lines-ok-spec =

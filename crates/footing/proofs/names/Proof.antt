@@ -1,5 +1,7 @@
 -- `footing::names` meets its contract. The invariant: no addend passed names the counter.
 -- Assumes nothing.
+use mathlib.Core.Bool.{_&&_}
+use lib.Dec.{eqb}
 use Prim.Native.Nat.{_≤_, _<_, _-_}
 use mathlib.Core.Path.{_≡_, sym}
 use native.Mathlib.Omega.{arith}
@@ -27,16 +29,22 @@ unfolding names
 returns c =
     let b = c .before .before .before .before in
     let a = b .before .before .before .before .args in
+    let q : (eqb (c .before .before .addend-num .result) 1 && eqb (c .before .addend-num2 .result) (a .k)) ≡ namesAt (a .h) (a .t .now) (a .s) (a .k) (b .loop .j) =
+    rw (c .before .before .addend-num .ensures .is, c .before .addend-num2 .ensures .is, b .before .before .counter-num .ensures .is)
+    in
     let n = b .before .counter-num2 .ensures .is in
     let l = c .before .before .before .loop-test .taken in
     let m : b .loop .j < addendCount (a .h) (a .t .now) (a .s) = rw (← n) l in
-    rw (← first-found (namesAt (a .h) (a .t .now) (a .s) (a .k)) l n (b .loop .inv .1) (cc) (c .if1 .taken)) (sym (lt-ltb _ _ m))
+    rw (← first-found (namesAt (a .h) (a .t .now) (a .s) (a .k)) l n (b .loop .inv .1) q (c .if1 .taken)) (sym (lt-ltb _ _ m))
 
 loop-again : tie.Need-loop-again Inv-loop μ-loop
 loop-again c =
     let b = c .before .before .before .before in
     let a = b .before .before .before .before .args in
-    (omega arith, first-next (namesAt (a .h) (a .t .now) (a .s) (a .k)) _ (b .loop .inv .1) (cc) (c .if1 .left))
+    let q : (eqb (c .before .before .addend-num .result) 1 && eqb (c .before .addend-num2 .result) (a .k)) ≡ namesAt (a .h) (a .t .now) (a .s) (a .k) (b .loop .j) =
+    rw (c .before .before .addend-num .ensures .is, c .before .addend-num2 .ensures .is, b .before .before .counter-num .ensures .is)
+    in
+    (omega arith, first-next (namesAt (a .h) (a .t .now) (a .s) (a .k)) _ (b .loop .inv .1) q (c .if1 .left))
 
 returns-2 : tie.Need-returns-2 Inv-loop μ-loop
 unfolding names

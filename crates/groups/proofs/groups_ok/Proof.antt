@@ -21,12 +21,12 @@ unfolding allBelow
 loop-holds c = search needs
 
 loop-again : tie.Need-loop-again Inv-loop μ-loop
-loop-again c = (omega arith, all-next _ _ (c .before .before .before .loop .inv .1) (cc))
+loop-again c = (omega arith, all-next _ _ (c .before .before .before .loop .inv .1) (rw (c .alone-of .ensures, c .before .numbers-ok .ensures)))
 
 returns : tie.Need-returns Inv-loop μ-loop
 returns c =
     let e : c .before .loop .i ≡ c .before .before .wide .result = omega arith in
-    cc
+    rw (c .before .loop .inv .1, e, c .before .before .wide .ensures .is)
 
 pub groups-ok-spec : {M : Type 1} → statement M
 groups-ok-spec =

@@ -7,7 +7,7 @@ use Rattle.groups.proofs.numbers_ok.Tie as tie
 
 returns : tie.Need-returns
 unfolding numbersOk
-returns c = cc
+returns c = rw (c .wide3 .ensures .is, c .before .wide2 .ensures .is, c .before .before .wide .ensures .is, c .before .before .before .group-num4 .ensures .is, c .before .before .before .before .group-num3 .ensures .is, c .before .before .before .before .before .group-num2 .ensures .is, c .before .before .before .before .before .before .group-num .ensures .is)
 
 pub numbers-ok-spec : {M : Type 1} → statement M
 numbers-ok-spec =

@@ -32,7 +32,7 @@ returns-2 c =
     let d = decimals-of (a .h) (a .t .now) (a .i) e (b .before .wide2 .ensures .is) in
     let k = kind-of (a .h) (a .t .now) (a .i) e (c .before .before .wide3 .ensures .is) in
     let n = index-of (a .h) (a .t .now) (a .i) e (c .before .wide4 .ensures .is) in
-    rw (ne-eqb _ 0 (λ q. b .if1 .left (d ∙ q))) (cc)
+    rw (ne-eqb _ 0 (λ q. b .if1 .left (d ∙ q)), c .field-num .ensures .is, d, w, k, n)
 
 pub decimals-ok-spec : {M : Type 1} → statement M
 decimals-ok-spec =

@@ -20,7 +20,7 @@ unfolding flagOk
 returns-2 c =
     let a = c .before .before .before .before .args in
     let f = flag-of (a .h) (a .t .now) (a .i) (c .before .before .before .before .pre .1) (c .before .before .wide .ensures .is) in
-    rw (ne-eqb _ 0 (λ q. c .before .if1 .left (f ∙ q))) (cc)
+    rw (ne-eqb _ 0 (λ q. c .before .if1 .left (f ∙ q)), c .group-num .ensures .is, f)
 
 pub flag-ok-spec : {M : Type 1} → statement M
 flag-ok-spec = tie.close (tie.spec (λ c κs. search needs) returns (λ c κs. search needs) returns-2)

@@ -21,13 +21,13 @@ unfolding allBelow
 loop-holds c = search needs
 
 loop-again : tie.Need-loop-again Inv-loop μ-loop
-loop-again c = (omega arith, all-next _ _ (c .before .before .loop .inv .1) (cc))
+loop-again c = (omega arith, all-next _ _ (c .before .before .loop .inv .1) (rw (c .line-items-ok .ensures, c .before .before .before .before .group-num .ensures .is)))
 
 returns : tie.Need-returns Inv-loop μ-loop
 unfolding groupItemsOk
 returns c =
     let e : c .before .loop .k ≡ c .before .before .group-num2 .result = omega arith in
-    cc
+    rw (c .before .loop .inv .1, e, c .before .before .group-num2 .ensures .is)
 
 pub group-items-ok-spec : {M : Type 1} → statement M
 group-items-ok-spec =

@@ -45,7 +45,7 @@ returns : tie.Need-returns Inv-loop μ-loop
 unfolding lineItemsOk
 returns c =
     let e : c .before .loop .m ≡ c .before .before .line-num2 .result = omega arith in
-    cc
+    rw (c .before .loop .inv .1 .0, e, c .before .before .line-num2 .ensures .is)
 
 pub line-items-ok-spec : {M : Type 1} → statement M
 line-items-ok-spec =

@@ -1,7 +1,7 @@
 -- `items::literals_ok` meets its contract. The invariant: the flag is the test of every byte passed.
 -- Assumes nothing.
 use Prim.Native.Nat.{_≤_, _-_}
-use mathlib.Core.Path.{_≡_}
+use mathlib.Core.Path.{_≡_, refl}
 use native.Mathlib.Omega.{arith}
 use borrow.Author.Needs.{needs}
 use lib.ListN.{length}
@@ -22,12 +22,12 @@ unfolding allBelow
 loop-holds c = search needs
 
 loop-again : tie.Need-loop-again Inv-loop μ-loop
-loop-again c = (omega arith, all-next _ _ (c .before .before .loop .inv .1) (cc))
+loop-again c = (omega arith, all-next _ _ (c .before .before .loop .inv .1) refl)
 
 returns : tie.Need-returns Inv-loop μ-loop
 returns c =
     let e : c .before .loop .k ≡ length (c .before .before .args .lits .now) = omega arith in
-    cc
+    rw (c .before .loop .inv .1, e)
 
 pub literals-ok-spec : {M : Type 1} → statement M
 literals-ok-spec =

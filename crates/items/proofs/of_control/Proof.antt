@@ -1,7 +1,8 @@
 -- `items::of_control` meets its contract. The invariant: no control passed has the field.
 -- Assumes nothing.
 use Prim.Native.Nat.{_≤_, _<_, _-_}
-use mathlib.Core.Path.{_≡_, sym}
+use mathlib.Core.Path.{_≡_, ap, sym}
+use lib.Dec.{eqb}
 use native.Mathlib.Omega.{arith}
 use borrow.Author.Needs.{needs}
 use borrow.Author.Tests.{eq-eqb, ne-eqb, lt-ltb, le-ltb}
@@ -26,7 +27,7 @@ unfolding ofControl
 returns c =
     let b = c .before .before .before in
     let a = b .before .before .before .args in
-    let e = first-found (hasField (a .h) (a .t .now) (a .f)) (c .before .before .loop-test .taken) (b .before .wide .ensures .is) (b .loop .inv .1) (cc) (eq-eqb _ _ (c .if1 .taken)) in
+    let e = first-found (hasField (a .h) (a .t .now) (a .f)) (c .before .before .loop-test .taken) (b .before .wide .ensures .is) (b .loop .inv .1) (ap (λ x. eqb x (a .f)) (c .before .control-num .ensures .is)) (eq-eqb _ _ (c .if1 .taken)) in
     let l : b .loop .k < a .h .controls = omega arith in
     rw (← e) (sym (lt-ltb _ _ l))
 
@@ -34,7 +35,7 @@ loop-again : tie.Need-loop-again Inv-loop μ-loop
 loop-again c =
     let b = c .before .before .before in
     let a = b .before .before .before .args in
-    (omega arith, first-next (hasField (a .h) (a .t .now) (a .f)) _ (b .loop .inv .1) (cc) (ne-eqb _ _ (c .if1 .left)))
+    (omega arith, first-next (hasField (a .h) (a .t .now) (a .f)) _ (b .loop .inv .1) (ap (λ x. eqb x (a .f)) (c .before .control-num .ensures .is)) (ne-eqb _ _ (c .if1 .left)))
 
 returns-2 : tie.Need-returns-2 Inv-loop μ-loop
 unfolding ofControl

@@ -5,4 +5,4 @@ use Rattle.items.proofs.place_ok.Statement.{statement}
 use Rattle.items.proofs.place_ok.Tie as tie
 
 pub place-ok-spec : {M : Type 1} → statement M
-place-ok-spec = tie.close (tie.spec (λ c. search needs) (λ c κs. search needs) (λ c. search needs) (λ c. cc))
+place-ok-spec = tie.close (tie.spec (λ c. search needs) (λ c κs. search needs) (λ c. search needs) (λ c. rw (c .wide .ensures .is)))

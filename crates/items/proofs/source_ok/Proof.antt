@@ -16,7 +16,7 @@ returns c =
     let w = width-of (a .h) (a .t .now) (a .i) e (c .before .before .before .wide .ensures .is) in
     let k = kind-of (a .h) (a .t .now) (a .i) e (c .before .before .wide2 .ensures .is) in
     let n = index-of (a .h) (a .t .now) (a .i) e (c .before .wide3 .ensures .is) in
-    rw (sym k ∙ c .match .keys1) (cc)
+    rw (sym k ∙ c .match .keys1, n, w)
 
 returns-2 : tie.Need-returns-2
 unfolding sourceOk
@@ -26,7 +26,7 @@ returns-2 c =
     let w = width-of (a .h) (a .t .now) (a .i) e (c .before .before .before .before .wide .ensures .is) in
     let k = kind-of (a .h) (a .t .now) (a .i) e (c .before .before .before .wide2 .ensures .is) in
     let n = index-of (a .h) (a .t .now) (a .i) e (c .before .before .wide3 .ensures .is) in
-    rw (sym k ∙ c .before .match .keys2) (cc)
+    rw (sym k ∙ c .before .match .keys2, c .field-item-ok .ensures, n)
 
 returns-3 : tie.Need-returns-3
 unfolding sourceOk
@@ -36,7 +36,7 @@ returns-3 c =
     let w = width-of (a .h) (a .t .now) (a .i) e (c .before .before .before .before .before .wide .ensures .is) in
     let k = kind-of (a .h) (a .t .now) (a .i) e (c .before .before .before .before .wide2 .ensures .is) in
     let n = index-of (a .h) (a .t .now) (a .i) e (c .before .before .before .wide3 .ensures .is) in
-    rw (sym k ∙ c .before .before .match .keys3) (cc)
+    rw (sym k ∙ c .before .before .match .keys3, c .before .wide4 .ensures .is, c .counter-num .ensures .is, n)
 
 returns-4 : tie.Need-returns-4
 unfolding sourceOk
@@ -47,7 +47,7 @@ returns-4 c =
     let k = kind-of (a .h) (a .t .now) (a .i) e (c .before .before .wide2 .ensures .is) in
     let n = index-of (a .h) (a .t .now) (a .i) e (c .before .wide3 .ensures .is) in
     let r = c .match .rest in
-    rw (ne-eqb _ 0 (λ q. r .0 .0 .1 (k ∙ q)), ne-eqb _ 1 (λ q. r .0 .1 (k ∙ q)), ne-eqb _ 4 (λ q. r .1 (k ∙ q))) (cc)
+    rw (ne-eqb _ 0 (λ q. r .0 .0 .1 (k ∙ q)), ne-eqb _ 1 (λ q. r .0 .1 (k ∙ q)), ne-eqb _ 4 (λ q. r .1 (k ∙ q)), k, n)
 
 pub source-ok-spec : {M : Type 1} → statement M
 source-ok-spec =

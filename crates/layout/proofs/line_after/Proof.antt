@@ -11,4 +11,4 @@ line-after-spec =
     (λ c κs. search needs)
     (λ c. search needs)
     (λ c κs. search needs)
-    (λ c. cc))
+    (λ c. rw (c .choose .ensures .0, c .before .before .span-of .ensures .is, c .before .before .before .present-of .ensures)))

@@ -10,4 +10,4 @@ start-of-spec =
     (tie.spec
     (λ c κs. search needs)
     (λ c κs. search needs)
-    (λ c. record { is = cc; group = search needs; small = omega arith }))
+    (λ c. record { is = rw (c .start-from .ensures .is, c .before .find .ensures .0); group = search needs; small = omega arith }))

@@ -7,4 +7,4 @@ use Rattle.lines.proofs.first_num.Tie as tie
 pub first-num-spec : {M : Type 1} → statement M
 first-num-spec =
     tie.close
-    (tie.spec (λ c κs. search needs) (λ c κs. search needs) (λ c. record { is = cc; small = search needs }))
+    (tie.spec (λ c κs. search needs) (λ c κs. search needs) (λ c. record { is = rw (c .line-num .ensures .is, c .before .group-num .ensures .is); small = c .line-num .ensures .small }))

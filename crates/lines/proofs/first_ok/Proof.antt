@@ -7,7 +7,7 @@ use Rattle.lines.proofs.first_ok.Tie as tie
 
 returns : tie.Need-returns
 unfolding firstOk
-returns c = cc
+returns c = rw (c .first-num2 .ensures .is, c .before .first-num .ensures .is, c .before .before .group-num .ensures .is)
 
 pub first-ok-spec : {M : Type 1} → statement M
 first-ok-spec =

@@ -21,12 +21,12 @@ unfolding allBelow
 loop-holds c = search needs
 
 loop-again : tie.Need-loop-again Inv-loop μ-loop
-loop-again c = (omega arith, all-next _ _ (c .before .before .loop .inv .1) (cc))
+loop-again c = (omega arith, all-next _ _ (c .before .before .loop .inv .1) (rw (c .step-ok .ensures, c .before .before .before .group-num .ensures .is)))
 
 returns : tie.Need-returns Inv-loop μ-loop
 returns c =
     let e : c .before .loop .k ≡ c .before .before .before .later-of .result = omega arith in
-    cc
+    rw (c .before .loop .inv .1, e, c .before .before .before .later-of .ensures .is)
 
 pub later-ok-spec : {M : Type 1} → statement M
 later-ok-spec =

@@ -7,7 +7,7 @@ use Rattle.lines.proofs.step_ok.Tie as tie
 
 returns : tie.Need-returns
 unfolding stepOk
-returns c = cc
+returns c = rw (c .line-num2 .ensures .is, c .before .line-num .ensures .is)
 
 pub step-ok-spec : {M : Type 1} → statement M
 step-ok-spec = tie.close (tie.spec (λ c κs. search needs) (λ c κs. search needs) returns)

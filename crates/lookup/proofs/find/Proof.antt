@@ -1,7 +1,9 @@
 -- `lookup::find` meets its contract. The invariant: no group passed has the type and level.
 -- Assumes nothing.
 use Prim.Native.Nat.{_≤_, _-_}
-use mathlib.Core.Path.{_≡_}
+use mathlib.Core.Path.{_≡_, _∙_}
+use mathlib.Core.Bool.{_&&_}
+use lib.Dec.{eqb}
 use native.Mathlib.Omega.{arith}
 use borrow.Author.Needs.{needs}
 use Rattle.counts.specs.Below.{firstBelow}
@@ -24,20 +26,27 @@ loop-again : tie.Need-loop-again Inv-loop μ-loop
 loop-again c =
     let b = c .before .before .before .before in
     let a = b .before .before .before .args in
-    (omega arith, first-next (isAt (a .h) (a .t .now) (a .kind) (a .level)) _ (b .loop .inv .1) (cc) (c .if1 .left))
+    let q : (eqb (c .before .before .group-num .result) (a .kind) && eqb (c .before .group-num2 .result) (a .level)) ≡ isAt (a .h) (a .t .now) (a .kind) (a .level) (b .loop .i) =
+    rw (c .before .before .group-num .ensures .is, c .before .group-num2 .ensures .is)
+    in
+    (omega arith, first-next (isAt (a .h) (a .t .now) (a .kind) (a .level)) _ (b .loop .inv .1) q (c .if1 .left))
 
 returns : tie.Need-returns Inv-loop μ-loop
 unfolding theGroup
 returns c =
     let e : c .before .loop .i ≡ c .before .before .wide .result = omega arith in
-    (cc, omega arith)
+    let w = e ∙ c .before .before .wide .ensures .is in
+    (rw w (rw w at (c .before .loop .inv .1)), omega arith)
 
 returns-2 : tie.Need-returns-2 Inv-loop μ-loop
 unfolding theGroup
 returns-2 c =
     let b = c .before .before .before .before in
     let a = b .before .before .before .args in
-    (first-found (isAt (a .h) (a .t .now) (a .kind) (a .level)) (c .before .before .before .loop-test .taken) (b .before .wide .ensures .is) (b .loop .inv .1) (cc) (c .if1 .taken), omega arith)
+    let q : (eqb (c .before .before .group-num .result) (a .kind) && eqb (c .before .group-num2 .result) (a .level)) ≡ isAt (a .h) (a .t .now) (a .kind) (a .level) (b .loop .i) =
+    rw (c .before .before .group-num .ensures .is, c .before .group-num2 .ensures .is)
+    in
+    (first-found (isAt (a .h) (a .t .now) (a .kind) (a .level)) (c .before .before .before .loop-test .taken) (b .before .wide .ensures .is) (b .loop .inv .1) q (c .if1 .taken), omega arith)
 
 pub find-spec : {M : Type 1} → statement M
 find-spec =

@@ -24,13 +24,13 @@ loop-holds c = search needs
 loop-again : tie.Need-loop-again Inv-loop μ-loop
 loop-again c =
     let i = c .before .before .before .loop .inv in
-    (omega arith, (all-next _ _ (i .1 .0) (cc), (sum-next _ _ (i .1 .1 .0) (c .number-of2 .ensures .is), omega arith)))
+    (omega arith, (all-next _ _ (i .1 .0) (rw (c .before .number-of .ensures .is, i .1 .1 .0)), (sum-next _ _ (i .1 .1 .0) (c .number-of2 .ensures .is), omega arith)))
 
 returns : tie.Need-returns Inv-loop μ-loop
 unfolding sharedOut
 returns c =
     let e : c .before .loop .i ≡ c .before .before .before .args .n = omega arith in
-    cc
+    rw (c .before .loop .inv .1 .0, c .before .loop .inv .1 .1 .0, e)
 
 pub shared-out-spec : {M : Type 1} → statement M
 shared-out-spec =

@@ -4,4 +4,4 @@ use Rattle.plan.proofs.first_plan.Statement.{statement}
 use Rattle.plan.proofs.first_plan.Tie as tie
 
 pub first-plan-spec : {M : Type 1} → statement M
-first-plan-spec = tie.close (tie.spec (λ c κs. search needs) (λ c. cc))
+first-plan-spec = tie.close (tie.spec (λ c κs. search needs) (λ c. rw (c .wide .ensures .is)))

@@ -1,7 +1,7 @@
 -- `rows::break_level` meets its contract. The invariant: no control passed differs.
 -- Assumes nothing.
 use Prim.Native.Nat.{_≤_, _-_}
-use mathlib.Core.Path.{_≡_}
+use mathlib.Core.Path.{_≡_, _∙_}
 use native.Mathlib.Omega.{arith}
 use borrow.Author.Needs.{needs}
 use Rattle.counts.specs.Below.{firstBelow}
@@ -27,7 +27,8 @@ returns : tie.Need-returns Inv-loop μ-loop
 unfolding breakLevel
 returns c =
     let e : c .before .loop .level ≡ c .before .before .wide .result = omega arith in
-    (cc, omega arith)
+    let w = e ∙ c .before .before .wide .ensures .is in
+    (rw w (rw w at (c .before .loop .inv .1)), omega arith)
 
 returns-2 : tie.Need-returns-2 Inv-loop μ-loop
 unfolding breakLevel

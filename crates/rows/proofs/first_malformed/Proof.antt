@@ -1,7 +1,7 @@
 -- `rows::first_malformed` meets its contract. The invariant: no field passed is malformed.
 -- Assumes nothing.
 use Prim.Native.Nat.{_≤_, _-_}
-use mathlib.Core.Path.{_≡_, ap}
+use mathlib.Core.Path.{_≡_, ap, _∙_}
 use mathlib.Core.Bool.{not}
 use native.Mathlib.Omega.{arith}
 use borrow.Author.Needs.{needs}
@@ -35,7 +35,8 @@ returns : tie.Need-returns Inv-loop μ-loop
 unfolding firstMalformed
 returns c =
     let e : c .before .loop .i ≡ c .before .before .wide .result = omega arith in
-    (cc, omega arith)
+    let w = e ∙ c .before .before .wide .ensures .is in
+    (rw w (rw w at (c .before .loop .inv .1)), omega arith)
 
 returns-2 : tie.Need-returns-2 Inv-loop μ-loop
 unfolding firstMalformed

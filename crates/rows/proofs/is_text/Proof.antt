@@ -30,7 +30,7 @@ returns : tie.Need-returns Inv-loop μ-loop
 unfolding isText
 returns c =
     let e : c .before .loop .i ≡ length (c .before .before .args .s .now) = omega arith in
-    cc
+    rw (c .before .loop .inv .1, e)
 
 pub is-text-spec : {M : Type 1} → statement M
 is-text-spec =

@@ -37,7 +37,7 @@ unfolding sameBytes
 returns-2 c =
     let a = c .before .before .before .args in
     let e : c .before .loop .i ≡ length (a .a .now) = omega arith in
-    rw (eq-eqb (length (a .a .now)) (length (a .b .now)) (c .before .before .if1 .left)) (cc)
+    rw (eq-eqb (length (a .a .now)) (length (a .b .now)) (c .before .before .if1 .left), c .before .loop .inv .1, e)
 
 pub same-bytes-spec : {M : Type 1} → statement M
 same-bytes-spec =

@@ -18,4 +18,4 @@ body-of-spec =
     (λ c κs. let s = c .before .before .before .before in omega (arith, present-lt (s .args .h) (s .args .t .now) (s .args .g) (s .pre .1)))
     (λ c κs. let s = c .before .before .before .before .before in omega (arith, present-lt (s .args .h) (s .args .t .now) (s .args .g) (s .pre .1)))
     (λ c. let s = c .before .before .before .before .before .before in omega (arith, c .before .span-of .ensures .is, s .pre .0 .spans (s .args .g) (s .pre .1)))
-    (λ c. cc))
+    (λ c. rw (c .low-of .ensures, c .before .span-of .ensures .is, c .before .before .as-first .ensures, c .before .before .before .first-num2 .ensures .is, c .before .before .before .before .first-num .ensures .is)))

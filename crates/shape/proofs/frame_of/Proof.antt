@@ -13,4 +13,4 @@ frame-of-spec =
     (tie.spec
     (λ c κs. search needs)
     (λ c. omega (arith, head-small _ _ (c .before .before .pre)))
-    (λ c. cc))
+    (λ c. rw (c .head-line .ensures)))

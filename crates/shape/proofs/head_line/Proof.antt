@@ -16,4 +16,4 @@ head-line-spec =
     (λ c κs. search needs)
     (λ c. search needs)
     (λ c κs. search needs)
-    (λ c. cc))
+    (λ c. rw (c .choose .ensures .0, c .before .span-of .ensures .is, c .before .before .start-from .ensures .is, c .before .before .before .above-head .ensures .is, c .before .before .before .before .present-of .ensures, c .before .before .before .before .before .find .ensures .0)))

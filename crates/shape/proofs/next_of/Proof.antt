@@ -6,4 +6,4 @@ use Rattle.shape.proofs.next_of.Tie as tie
 pub next-of-spec : {M : Type 1} → statement M
 next-of-spec =
     tie.close
-    (tie.spec (λ c κs. search needs) (λ c κs. search needs) (λ c. search needs) (λ c κs. search needs) (λ c. cc))
+    (tie.spec (λ c κs. search needs) (λ c κs. search needs) (λ c. search needs) (λ c κs. search needs) (λ c. rw (c .as-next .ensures, c .before .group-num2 .ensures .is, c .before .before .group-num .ensures .is)))

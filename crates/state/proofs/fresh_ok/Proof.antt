@@ -7,7 +7,7 @@ use Rattle.state.proofs.fresh_ok.Tie as tie
 
 returns : tie.Need-returns
 unfolding freshOk
-returns c = cc
+returns c = rw (c .zero-bytes .ensures, c .before .zero-flags .ensures, c .before .before .zero-sums .ensures)
 
 pub fresh-ok-spec : {M : Type 1} → statement M
 fresh-ok-spec =

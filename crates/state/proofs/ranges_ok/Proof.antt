@@ -7,7 +7,7 @@ use Rattle.state.proofs.ranges_ok.Tie as tie
 
 returns : tie.Need-returns
 unfolding rangesOk
-returns c = cc
+returns c = rw (c .sums-ok .ensures)
 
 pub ranges-ok-spec : {M : Type 1} → statement M
 ranges-ok-spec = tie.close (tie.spec (λ c κs. search needs) returns)

@@ -13,7 +13,7 @@ kept-ok-requires c κs =
 
 returns : tie.Need-returns
 unfolding runningOk
-returns c = cc
+returns c = rw (c .kept-ok .ensures, c .before .beyond-ok .ensures, c .before .before .saved-ok .ensures, c .before .before .before .line-ok .ensures, c .before .before .before .before .ranges-ok .ensures)
 
 pub running-ok-spec : {M : Type 1} → statement M
 running-ok-spec =

@@ -35,7 +35,7 @@ returns : tie.Need-returns Inv-loop μ-loop
 unfolding sumsOk
 returns c =
     let e : c .before .loop .i ≡ 32 = omega arith in
-    cc
+    rw (c .before .loop .inv .1, e)
 
 pub sums-ok-spec : {M : Type 1} → statement M
 sums-ok-spec =

@@ -32,7 +32,7 @@ returns : tie.Need-returns Inv-loop μ-loop
 unfolding flagsPlain
 returns c =
     let e : c .before .loop .i ≡ 9 = omega arith in
-    cc
+    rw (c .before .loop .inv .1, e)
 
 pub flags-plain-spec : {M : Type 1} → statement M
 flags-plain-spec =

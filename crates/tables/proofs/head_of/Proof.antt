@@ -1,7 +1,6 @@
 -- `tables::head_of` meets its contract, number by number.
 -- Assumes nothing.
-use native.Mathlib.Omega.{arith}
-use borrow.Author.Needs.{needs}
+use lib.Dec.{lit<}
 use Rattle.tables.proofs.Heads.{head-is}
 use Rattle.tables.proofs.head_of.Statement.{statement}
 use Rattle.tables.proofs.head_of.Tie as tie
@@ -13,4 +12,4 @@ returns c =
 pub head-of-spec : {M : Type 1} → statement M
 head-of-spec =
     tie.close
-    (tie.spec (λ c κs. search needs) (λ c κs. search needs) (λ c κs. search needs) (λ c κs. search needs) (λ c κs. search needs) (λ c κs. search needs) (λ c κs. search needs) (λ c κs. search needs) (λ c κs. search needs) (λ c κs. search needs) (λ c κs. search needs) (λ c κs. search needs) (λ c κs. search needs) (λ c κs. search needs) (λ c κs. search needs) (λ c κs. search needs) (λ c κs. search needs) (λ c κs. search needs) (λ c κs. search needs) (λ c κs. (c .before .before .before .before .before .before .before .before .before .before .before .before .before .before .before .before .before .before .before .before .pre, omega arith)) (λ c κs. (c .before .before .before .before .before .before .before .before .before .before .before .before .before .before .before .before .before .before .before .before .before .pre, omega arith)) (λ c κs. (c .before .before .before .before .before .before .before .before .before .before .before .before .before .before .before .before .before .before .before .before .before .before .pre, omega arith)) returns)
+    (tie.spec (λ c κs. (c .before .pre, lit< tt)) (λ c κs. (c .before .before .pre, lit< tt)) (λ c κs. (c .before .before .before .pre, lit< tt)) (λ c κs. (c .before .before .before .before .pre, lit< tt)) (λ c κs. (c .before .before .before .before .before .pre, lit< tt)) (λ c κs. (c .before .before .before .before .before .before .pre, lit< tt)) (λ c κs. (c .before .before .before .before .before .before .before .pre, lit< tt)) (λ c κs. (c .before .before .before .before .before .before .before .before .pre, lit< tt)) (λ c κs. (c .before .before .before .before .before .before .before .before .before .pre, lit< tt)) (λ c κs. (c .before .before .before .before .before .before .before .before .before .before .pre, lit< tt)) (λ c κs. (c .before .before .before .before .before .before .before .before .before .before .before .pre, lit< tt)) (λ c κs. (c .before .before .before .before .before .before .before .before .before .before .before .before .pre, lit< tt)) (λ c κs. (c .before .before .before .before .before .before .before .before .before .before .before .before .before .pre, lit< tt)) (λ c κs. (c .before .before .before .before .before .before .before .before .before .before .before .before .before .before .pre, lit< tt)) (λ c κs. (c .before .before .before .before .before .before .before .before .before .before .before .before .before .before .before .pre, lit< tt)) (λ c κs. (c .before .before .before .before .before .before .before .before .before .before .before .before .before .before .before .before .pre, lit< tt)) (λ c κs. (c .before .before .before .before .before .before .before .before .before .before .before .before .before .before .before .before .before .pre, lit< tt)) (λ c κs. (c .before .before .before .before .before .before .before .before .before .before .before .before .before .before .before .before .before .before .pre, lit< tt)) (λ c κs. (c .before .before .before .before .before .before .before .before .before .before .before .before .before .before .before .before .before .before .before .pre, lit< tt)) (λ c κs. (c .before .before .before .before .before .before .before .before .before .before .before .before .before .before .before .before .before .before .before .before .pre, lit< tt)) (λ c κs. (c .before .before .before .before .before .before .before .before .before .before .before .before .before .before .before .before .before .before .before .before .before .pre, lit< tt)) (λ c κs. (c .before .before .before .before .before .before .before .before .before .before .before .before .before .before .before .before .before .before .before .before .before .before .pre, lit< tt)) returns)

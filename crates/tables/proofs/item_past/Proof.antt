@@ -5,7 +5,7 @@ use Rattle.tables.proofs.item_past.Statement.{statement}
 use Rattle.tables.proofs.item_past.Tie as tie
 
 returns : tie.Need-returns
-returns c = cc
+returns c = rw (c .short-at6 .ensures, c .before .short-at5 .ensures, c .before .before .short-at4 .ensures, c .before .before .before .short-at3 .ensures, c .before .before .before .before .short-at2 .ensures, c .before .before .before .before .before .short-at .ensures)
 
 pub item-past-spec : {M : Type 1} → statement M
 item-past-spec =
