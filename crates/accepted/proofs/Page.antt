@@ -21,7 +21,7 @@ use Rattle.fits.specs.Starts.{startFrom, present, lastFrom, aboveHead, headEnd,
 use Rattle.fits.specs.Fits.{bodyStart, bodyFits, headFits, footFits, fits, linesOk, ruleD6}
 use Rattle.place.specs.declared.Frame.{Frame}
 use Rattle.place.specs.declared.Next.{Next}
-use Rattle.place.specs.Rules.{Room, Described, NextIn}
+use Rattle.place.specs.Rules.{FitsPart, Described, NextIn}
 use Rattle.shape.specs.Shape.{asFirst, asNext, lowOf, bodyOf, nextOf, headLine, frameOf}
 use Rattle.shape.specs.Facts.{Small}
 use Rattle.layout.specs.Layout.{reportHeading, pageHeading, pageFooting, reportFooting, rhAt, phAt, pfAt, rfAt, ownPage}
@@ -37,7 +37,7 @@ or-no true e = refl
 or-no false e = e
 
 -- ---- a body group's first line, by kind
-room-of : (f : Frame) (k n s low : ℕ) → k ≤ 2 → 1 ≤ n → f .fd ≤ cond (eqb k 2) (f .fd) n → cond (eqb k 2) (f .fd) n + s ≤ low → Room f (asFirst k n) s low
+room-of : (f : Frame) (k n s low : ℕ) → k ≤ 2 → 1 ≤ n → f .fd ≤ cond (eqb k 2) (f .fd) n → cond (eqb k 2) (f .fd) n + s ≤ low → FitsPart f (asFirst k n) s low
 room-of f zero n s low l m a b = (a, b)
 room-of f (suc zero) n s low l m a b = (a, b)
 room-of f (suc (suc zero)) n s low l m a b = (m, b)

@@ -16,7 +16,7 @@ use Rattle.sums.specs.Sums.{inRange, sumsOk, sumAt, put, addAt}
 use Rattle.sums.proofs.Range.{sum-in, sums-set}
 use Rattle.sums.proofs.Kept.{subtotal-keeps}
 use Rattle.footing.proofs.Kept.{Closed}
-use Rattle.amounts.specs.Totals.{footings, settled, totalsFirst, totalsLater, totalsLast}
+use Rattle.amounts.specs.Totals.{footings, oldIfRefused, totalsFirst, totalsLater, totalsLast}
 use Rattle.amounts.proofs.Kept.{footings-keeps}
 
 -- sums of n counters
@@ -57,9 +57,9 @@ module _ (h : Head) (t : List ℕ) (few : h .counters ≤ 32) (old : List ℤ) (
   back : (ok : Bool) → GoodTotals (h .counters) (record { ok = ok; sums = old; shown = old })
   back ok = record { sums = good; shown = good .range; long = good .long }
 
-  settled-good : {r : Totals} → GoodTotals (h .counters) r → GoodTotals (h .counters) (settled old r)
-  unfolding settled
-  settled-good {r} g = by-cond (GoodTotals (h .counters)) (r .ok) (λ e. g) (λ e. back false)
+  old-if-refused-good : {r : Totals} → GoodTotals (h .counters) r → GoodTotals (h .counters) (oldIfRefused old r)
+  unfolding oldIfRefused
+  old-if-refused-good {r} g = by-cond (GoodTotals (h .counters)) (r .ok) (λ e. g) (λ e. back false)
 
   added : (row : List ℕ) (d : ℕ) {acc : Totals} → GoodTotals (h .counters) acc → GoodTotals (h .counters) (subtotal h t row d acc)
   added row d g = subtotal-keeps h t (GoodTotals (h .counters)) (good-closed (h .counters) few .add) row d g
@@ -69,17 +69,17 @@ module _ (h : Head) (t : List ℕ) (few : h .counters ≤ 32) (old : List ℤ) (
 
   pub first-good : (row : List ℕ) (d : ℕ) → GoodTotals (h .counters) (totalsFirst h t row d old)
   unfolding totalsFirst
-  first-good row d = settled-good (search (added, back))
+  first-good row d = old-if-refused-good (search (added, back))
 
   pub later-good : (row : List ℕ) (d b : ℕ) → GoodTotals (h .counters) (totalsLater h t row d b old)
   unfolding totalsLater
-  later-good row d b = settled-good (search (added, footed, back))
+  later-good row d b = old-if-refused-good (search (added, footed, back))
 
   pub last-good : GoodTotals (h .counters) (totalsLast h t old)
   unfolding totalsLast
-  last-good = settled-good (search (footed, back))
+  last-good = old-if-refused-good (search (footed, back))
 
 -- where an addition is refused, the old sums are back
-pub refused-sums : (old : List ℤ) (r : Totals) → settled old r .ok ≡ false → settled old r .sums ≡ old
-unfolding settled
+pub refused-sums : (old : List ℤ) (r : Totals) → oldIfRefused old r .ok ≡ false → oldIfRefused old r .sums ≡ old
+unfolding oldIfRefused
 refused-sums old r = by-cond (λ (s : Totals). s .ok ≡ false → s .sums ≡ old) (r .ok) (λ o f. absurd (true≢false (sym o ∙ f))) (λ o f. refl)

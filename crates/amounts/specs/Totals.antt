@@ -24,17 +24,17 @@ abbrev pub fresh : List ℤ → Totals
 fresh old = record { ok = true; sums = old; shown = old }
 
 -- "One addition out of range refuses the call": the old sums go back
-unfoldable pub settled : List ℤ → Totals → Totals
-settled old r = cond (r .ok) r (record { ok = false; sums = old; shown = old })
+unfoldable pub oldIfRefused : List ℤ → Totals → Totals
+oldIfRefused old r = cond (r .ok) r (record { ok = false; sums = old; shown = old })
 
 -- the first GENERATE: "all CH senior to junior; then subtotal"
 unfoldable pub totalsFirst : Head → List ℕ → List ℕ → ℕ → List ℤ → Totals
-totalsFirst h t row d old = settled old (subtotal h t row d (fresh old))
+totalsFirst h t row d old = oldIfRefused old (subtotal h t row d (fresh old))
 
 -- a later one, with a break at level b or (b the number of controls) none: "CFs from junior up to b, then .. subtotal"
 unfoldable pub totalsLater : Head → List ℕ → List ℕ → ℕ → ℕ → List ℤ → Totals
-totalsLater h t row d b old = settled old (subtotal h t row d (footings h t b (fresh old)))
+totalsLater h t row d b old = oldIfRefused old (subtotal h t row d (footings h t b (fresh old)))
 
 -- TERMINATE "when running: break at level 0, all CFs"
 unfoldable pub totalsLast : Head → List ℕ → List ℤ → Totals
-totalsLast h t old = settled old (footings h t 0 (fresh old))
+totalsLast h t old = oldIfRefused old (footings h t 0 (fresh old))

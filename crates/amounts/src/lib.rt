@@ -4,7 +4,7 @@ ghost use mathlib.Core.Bool.{true};
 ghost use Prim.Native.Nat.{_≤_};
 ghost use Rattle.sums.specs.Sums.{totals, sumsOk};
 ghost use Rattle.sums.specs.Facts.{CountersIn, Adding};
-ghost use Rattle.amounts.specs.Totals.{footingAt, footings as footingsSpec, fresh as freshSpec, settled as settledSpec, totalsFirst, totalsLater, totalsLast};
+ghost use Rattle.amounts.specs.Totals.{footingAt, footings as footingsSpec, fresh as freshSpec, oldIfRefused, totalsFirst, totalsLater, totalsLast};
 use sums::Totals;
 use tables::Head;
 
@@ -51,8 +51,8 @@ fn footings(
 }
 
 // The new sums, or the old ones where an addition was refused.
-fn settled(old: [i64; 32], ok: bool, sums: [i64; 32], shown: [i64; 32]) -> Totals
-    ensures { λ s. ⌜ s ≡ settledSpec old (totals ok sums shown) ⌝ }
+fn old_if_refused(old: [i64; 32], ok: bool, sums: [i64; 32], shown: [i64; 32]) -> Totals
+    ensures { λ s. ⌜ s ≡ oldIfRefused old (totals ok sums shown) ⌝ }
 {
     if ok {
         Totals {
@@ -76,7 +76,7 @@ pub fn totals_first(t: &[u16], h: Head, row: &[u8], d: usize, old: [i64; 32]) ->
 {
     let mut sums = old;
     let ok = sums::subtotal(t, h, row, d, true, &mut sums);
-    settled(old, ok, sums, old)
+    old_if_refused(old, ok, sums, old)
 }
 
 // The totals of a later GENERATE with a break at level `b`; none where that is the number of controls.
@@ -88,7 +88,7 @@ pub fn totals_later(t: &[u16], h: Head, row: &[u8], d: usize, b: usize, old: [i6
     let mut shown = old;
     let footed = footings(t, h, b, true, &mut sums, &mut shown);
     let ok = sums::subtotal(t, h, row, d, footed, &mut sums);
-    settled(old, ok, sums, shown)
+    old_if_refused(old, ok, sums, shown)
 }
 
 // The totals of TERMINATE.
@@ -99,5 +99,5 @@ pub fn totals_last(t: &[u16], h: Head, old: [i64; 32]) -> Totals
     let mut sums = old;
     let mut shown = old;
     let ok = footings(t, h, 0, true, &mut sums, &mut shown);
-    settled(old, ok, sums, shown)
+    old_if_refused(old, ok, sums, shown)
 }

@@ -2,27 +2,26 @@
 -- Assumes nothing.
 use Prim.Native.Nat.{ℕ, _<_}
 use mathlib.Core.Path.{_≡_, refl}
-use mathlib.Core.Bool.{Bool, true, _&&_}
+use mathlib.Core.Bool.{Bool, true}
 use mathlib.Core.List.{List}
 use lib.Dec.{eqb}
 use lib.IntN.{ℤ, pos}
 use Rattle.counts.proofs.Laws.{by-cond}
 use Rattle.tables.specs.declared.Head.{Head}
-use Rattle.tables.specs.Table.{levelOf, counterGroup}
+use Rattle.tables.specs.Table.{counterGroup}
 use Rattle.sums.specs.declared.Totals.{Totals}
-use Rattle.sums.specs.Sums.{totals, sumsOk, sumAt, put, addAt}
+use Rattle.sums.specs.Sums.{totals, sumsOk, put}
 use Rattle.sums.specs.Facts.{InRange}
 use Rattle.sums.proofs.Folds.{fold-keeps}
-use Rattle.sums.proofs.Range.{sums-set, add-range}
-use Rattle.sums.proofs.Kept.{each-addend-keeps}
+use Rattle.sums.proofs.Range.{sums-set}
+use Rattle.rolling.proofs.Kept.{Adds, range-adds, cross-keeps, roll-keeps}
 use Rattle.footing.specs.declared.Step.{Step}
 use Rattle.footing.specs.declared.Step.the-variants.{Crossfoot, RollUp, Show, Reset}
-use Rattle.footing.specs.Rolling.{sameGroup, addSame, crossCounter, names, senior, rollInto, rollCounter, showCounter, resets, resetCounter}
-use Rattle.footing.specs.Footing.{stepOf, atOwn, eachOwn, footing}
+use Rattle.footing.specs.Footing.{showCounter, resets, resetCounter, stepOf, atOwn, eachOwn, footing}
 
 -- what is done to counters below n keeps P
 pub record Closed (n : ℕ) (P : Totals → Type 0) : Type 0 where
-  pub add : (k : ℕ) (x : ℤ) (acc : Totals) → k < n → P acc → P (addAt k x acc)
+  pub add : Adds n P
   pub show : (k : ℕ) (acc : Totals) → k < n → P acc → P (showCounter k acc)
   pub zero : (k : ℕ) (acc : Totals) → k < n → P acc → P (put k (pos 0) acc)
 
@@ -30,7 +29,7 @@ pub record Closed (n : ℕ) (P : Totals → Type 0) : Type 0 where
 pub range-closed : (n : ℕ) → Closed n InRange
 range-closed n =
     record {
-      add = λ k x acc l r. add-range k x r;
+      add = range-adds n;
       show = λ k acc l r. record { sums = r .sums };
       zero = λ k acc l r. record { sums = sums-set (acc .sums) k (pos 0) refl (r .sums) };
     }
@@ -40,29 +39,12 @@ pub work-range : (f : Totals → Totals) {ok ok' : Bool} {sums shown sums' shown
 work-range f {ok' = ok'} {sums' = sums'} {shown' = shown'} g e r = let z : InRange (totals ok' sums' shown') = rw e (g _ (record { sums = r })) in z .sums
 
 module _ (h : Head) (t : List ℕ) {P : Totals → Type 0} (c : Closed (h .counters) P) where
-  pub add-same-keeps : (g k a : ℕ) → k < h .counters → {acc : Totals} → P acc → P (addSame h t g k a acc)
-  unfolding addSame
-  add-same-keeps g k a l {acc} p = by-cond P (sameGroup h t g a) (λ e. c .add k _ acc l p) (λ e. p)
-
-  cross-keeps : (g k : ℕ) → k < h .counters → {acc : Totals} → P acc → P (crossCounter h t g k acc)
-  unfolding crossCounter
-  cross-keeps g k l p = each-addend-keeps h t P k (addSame h t g k) (λ a acc q. add-same-keeps g k a l q) p
-
-  pub roll-into-keeps : (level k : ℕ) (x : ℤ) (s : ℕ) → s < h .counters → {acc : Totals} → P acc → P (rollInto h t level k x s acc)
-  unfolding rollInto
-  roll-into-keeps level k x s l {acc} p = by-cond P (senior h t level s && names h t s k) (λ e. c .add s x acc l p) (λ e. p)
-
-  roll-keeps : (g k : ℕ) {acc : Totals} → P acc → P (rollCounter h t g k acc)
-  unfolding rollCounter
-  roll-keeps g k {acc} p =
-      fold-keeps (rollInto h t (levelOf h t g) k (sumAt k acc)) P (h .counters) (λ s a l q. roll-into-keeps (levelOf h t g) k (sumAt k acc) s l q) p
-
   reset-keeps : (b k : ℕ) → k < h .counters → {acc : Totals} → P acc → P (resetCounter h t b k acc)
   reset-keeps b k l {acc} p = by-cond P (resets h t b k) (λ e. c .zero k acc l p) (λ e. p)
 
   step-keeps : (g b : ℕ) (step : Step) (k : ℕ) → k < h .counters → {acc : Totals} → P acc → P (stepOf h t g b step k acc)
-  step-keeps g b Crossfoot k l p = cross-keeps g k l p
-  step-keeps g b RollUp k l p = roll-keeps g k p
+  step-keeps g b Crossfoot k l p = cross-keeps h t (c .add) g k l p
+  step-keeps g b RollUp k l p = roll-keeps h t (c .add) g k p
   step-keeps g b Show k l {acc} p = c .show k acc l p
   step-keeps g b Reset k l p = reset-keeps b k l p
 

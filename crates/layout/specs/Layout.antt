@@ -8,7 +8,7 @@ use Rattle.lookup.specs.Find.{theGroup}
 use Rattle.lines.specs.Lines.{kindOf, span}
 use Rattle.fits.specs.Starts.{present, startFrom, aboveHead, headEnd, footEnd}
 use Rattle.place.specs.declared.Next.{Next}
-use Rattle.place.specs.declared.Next.the-variants.{Stay}
+use Rattle.place.specs.declared.Next.the-variants as next
 use Rattle.place.specs.declared.Landing.{Landing}
 use Rattle.place.specs.Place.{landing, followed}
 use Rattle.shape.specs.Shape.{bodyOf, nextOf, frameOf}
@@ -60,7 +60,7 @@ pageChanges h t kept (suc n) page = pageChange h t kept page ++ pageChanges h t 
 
 -- "Then, if the group has a next group (ignored on a CF more junior than b)"
 abbrev pub nextFor : Head → List ℕ → Turn → Next
-nextFor h t d = cond (d .follows) (nextOf h t (d .group)) Stay
+nextFor h t d = cond (d .follows) (nextOf h t (d .group)) next.None
 
 -- a group with lines
 abbrev pub placedBy : Head → List ℕ → Turn → Pos → Landing → Placed

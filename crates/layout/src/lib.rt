@@ -111,7 +111,7 @@ fn next_for(t: &[u16], h: Head, d: Turn) -> Next
     if d.follows {
         shape::next_of(t, h, d.group)
     } else {
-        Next::Stay
+        Next::None
     }
 }
 

@@ -10,7 +10,7 @@ use Rattle.place.specs.declared.Frame.{Frame}
 use Rattle.place.specs.declared.First.the-variants.{Relative}
 use Rattle.place.specs.declared.Body.{Body}
 use Rattle.place.specs.declared.Next.{Next}
-use Rattle.place.specs.declared.Next.the-variants.{LineNo, Skip}
+use Rattle.place.specs.declared.Next.the-variants as next
 use Rattle.place.specs.declared.Spot.{Spot}
 use Rattle.place.specs.declared.Landing.{Landing}
 use Rattle.place.specs.Place.{landing, followed}
@@ -71,13 +71,13 @@ unfoldable pub given : List (List ℕ)
 given =
     landed (landing page detail (seenAt 5))
     ∷ landed (landing page detail (seenAt 6))
-    ∷ left (after (Skip 2) 5)
-    ∷ left (after (Skip 3) 5)
-    ∷ left (after (Skip 4) 5)
-    ∷ left (after (LineNo 5) 4)
-    ∷ left (after (LineNo 5) 5)
-    ∷ landed (landing page detail (after (LineNo 5) 5))
-    ∷ landed (landing page detail (after (LineNo 6) 6))
+    ∷ left (after (next.Relative 2) 5)
+    ∷ left (after (next.Relative 3) 5)
+    ∷ left (after (next.Relative 4) 5)
+    ∷ left (after (next.Absolute 5) 4)
+    ∷ left (after (next.Absolute 5) 5)
+    ∷ landed (landing page detail (after (next.Absolute 5) 5))
+    ∷ landed (landing page detail (after (next.Absolute 6) 6))
     ∷ (breakLevel byNumber numberField4 (45 ∷ 48 ∷ 48 ∷ 48 ∷ []) (43 ∷ 48 ∷ 48 ∷ 48 ∷ []) ∷ [])
     ∷ numberField (pos 5) 2 6
     ∷ numberField (negsuc 123455) 0 6

@@ -16,7 +16,7 @@ use Rattle.lines.specs.Lines.{span}
 use Rattle.fits.specs.Starts.{present, startFrom, aboveHead}
 use Rattle.place.specs.declared.Landing.{Landing}
 use Rattle.place.specs.declared.Next.{Next}
-use Rattle.place.specs.declared.Next.the-variants.{Stay}
+use Rattle.place.specs.declared.Next.the-variants as next
 use Rattle.place.specs.Place.{landing, followed}
 use Rattle.place.specs.Rules.{Described, NextIn, Running, Inside}
 use Rattle.place.proofs.Within.{within, rises, at-most-two, line-le, followed-ge, kept-running}
@@ -107,7 +107,7 @@ module _ (h : Head) (t : List ℕ) (r : ℕ) (fits : PageFits h t) where
   abbrev pub TurnOk : Turn → Type 0
   TurnOk d = present h t (d .group) ≡ true → (2 ≤ typeOf h t (d .group)) × (typeOf h t (d .group) ≤ 4)
 
-  next-in : (d : Turn) (b : Bool) → NextIn (frameOf h t) (nextOf h t (d .group)) → NextIn (frameOf h t) (cond b (nextOf h t (d .group)) Stay)
+  next-in : (d : Turn) (b : Bool) → NextIn (frameOf h t) (nextOf h t (d .group)) → NextIn (frameOf h t) (cond b (nextOf h t (d .group)) next.None)
   next-in d true n = n
   next-in d false n = tt
 

@@ -11,11 +11,11 @@ use Rattle.place.specs.declared.Body.{Body}
 use Rattle.place.specs.declared.First.{First}
 use Rattle.place.specs.declared.First.the-variants.{Absolute, NextPage, Relative}
 use Rattle.place.specs.declared.Next.{Next}
-use Rattle.place.specs.declared.Next.the-variants.{Stay, LineNo, Skip, Page}
+use Rattle.place.specs.declared.Next.the-variants as next
 use Rattle.place.specs.declared.Spot.{Spot}
 use Rattle.place.specs.declared.Landing.{Landing}
 use Rattle.place.specs.Place.{changePage, lands, landing, followed}
-use Rattle.place.specs.Rules.{Room, Described, NextIn, Running, Inside}
+use Rattle.place.specs.Rules.{FitsPart, Described, NextIn, Running, Inside}
 use Rattle.place.proofs.Laws.{by-test, by-cond, changes-le}
 use Rattle.place.proofs.Text.{two-settle}
 
@@ -42,7 +42,7 @@ module _ (f : Frame) (span low : ℕ) (s : Spot) where
   After l = Lands f span low s (changePage l)
 
   -- by the tests of each rule
-  all-land : (g : First) → Room f g span low → low ≤ f .ft → Running f s → Lands f span low s (lands f g span low s)
+  all-land : (g : First) → FitsPart f g span low → low ≤ f .ft → Running f s → Lands f span low s (lands f g span low s)
   unfolding lands
   all-land (Absolute n) r lo h =
       by-cond (Lands f span low s) (ltb (s .line) n)
@@ -102,10 +102,10 @@ saved-le f s h = by-test (eqb (s .saved) 0) (λ z. omega (arith, eqb-true)) (λ 
 -- after a group whose last line is x, in FD to FT, with nothing saved, the state's rules hold
 pub follows : (f : Frame) (g : Next) (x : ℕ) → NextIn f g → f .fd ≤ x → x ≤ f .ft → Running f (followed (f .ft) g x 0)
 unfolding followed
-follows f Stay x n l h = seen-running f x l h
-follows f (Skip k) x n l h = seen-running f _ (omega arith) (omega arith)
-follows f Page x n l h = seen-running f _ (omega arith) (omega arith)
-follows f (LineNo k) x n l h =
+follows f next.None x n l h = seen-running f x l h
+follows f (next.Relative k) x n l h = seen-running f _ (omega arith) (omega arith)
+follows f next.NextPage x n l h = seen-running f _ (omega arith) (omega arith)
+follows f (next.Absolute k) x n l h =
     by-cond (Running f) (ltb x k)
     (λ e. seen-running f k (n .0) (n .1))
     (λ e. record { body = λ e. omega arith; fresh = λ e. absurd (not-true (sym e)); kept = λ k. (refl, refl, n .0, n .1) })
@@ -113,10 +113,10 @@ follows f (LineNo k) x n l h =
 -- a next group never goes up the page
 pub followed-ge : (ft : ℕ) (g : Next) (x saved : ℕ) → x ≤ ft → x ≤ followed ft g x saved .line
 unfolding followed
-followed-ge ft Stay x k h = omega arith
-followed-ge ft (Skip n) x k h = omega arith
-followed-ge ft Page x k h = h
-followed-ge ft (LineNo n) x k h = by-cond (λ (t : Spot). x ≤ t .line) (ltb x n) (λ e. omega (arith, ltb-true)) (λ e. h)
+followed-ge ft next.None x k h = omega arith
+followed-ge ft (next.Relative n) x k h = omega arith
+followed-ge ft next.NextPage x k h = h
+followed-ge ft (next.Absolute n) x k h = by-cond (λ (t : Spot). x ≤ t .line) (ltb x n) (λ e. omega (arith, ltb-true)) (λ e. h)
 
 -- one body group, printed: from a running state to a running state
 pub kept-running : (f : Frame) (b : Body) (g : Next) (s : Spot) → Described f b → NextIn f g → Running f s → Running f (followed (f .ft) g (landing f b s .at + b .span) (landing f b s .spot .saved))

@@ -11,7 +11,7 @@ use Rattle.place.specs.declared.Body.{Body}
 use Rattle.place.specs.declared.Spot.{Spot}
 use Rattle.place.specs.declared.Landing.{Landing}
 use Rattle.place.specs.declared.Next.{Next}
-use Rattle.place.specs.declared.Next.the-variants.{Stay, LineNo, Skip, Page}
+use Rattle.place.specs.declared.Next.the-variants as next
 
 -- "A page change prints PF, adds 1 to page, sets line 0, clears seen, prints PH."
 abbrev pub newPage : Frame → Spot → Spot
@@ -77,8 +77,8 @@ landing f b s = lands f (b .first) (b .span) (b .low) s
 -- "After any group prints, line is its last line x. Then, if the group has a next group ..: relative k gives the smaller of x + k and
 -- FT; next page gives FT; absolute k gives k if x < k, else FT with saved = k."
 unfoldable pub followed : ℕ → Next → ℕ → ℕ → Spot
-followed ft Stay x saved = record { line = x; seen = true; saved = saved }
-followed ft (Skip k) x saved = record { line = min (x + k) ft; seen = true; saved = saved }
-followed ft Page x saved = record { line = ft; seen = true; saved = saved }
-followed ft (LineNo k) x saved =
+followed ft next.None x saved = record { line = x; seen = true; saved = saved }
+followed ft (next.Relative k) x saved = record { line = min (x + k) ft; seen = true; saved = saved }
+followed ft next.NextPage x saved = record { line = ft; seen = true; saved = saved }
+followed ft (next.Absolute k) x saved =
     cond (ltb x k) (record { line = k; seen = true; saved = saved }) (record { line = ft; seen = true; saved = k })

@@ -7,28 +7,28 @@ use Rattle.place.specs.declared.First.{First}
 use Rattle.place.specs.declared.First.the-variants.{Absolute, NextPage, Relative}
 use Rattle.place.specs.declared.Body.{Body}
 use Rattle.place.specs.declared.Next.{Next}
-use Rattle.place.specs.declared.Next.the-variants.{Stay, LineNo, Skip, Page}
+use Rattle.place.specs.declared.Next.the-variants as next
 use Rattle.place.specs.declared.Spot.{Spot}
 use Rattle.place.specs.declared.Landing.{Landing}
 
 -- D6: "With span the sum of later steps, the group must fit: CH, DE in FD..LD and CF in FD..FT, taking first line n, or FD where relative"
-abbrev pub Room : Frame → First → ℕ → ℕ → Type 0
-Room f (Absolute n) span low = (f .fd ≤ n) × (n + span ≤ low)
-Room f (NextPage n) span low = (f .fd ≤ n) × (n + span ≤ low)
-Room f (Relative n) span low = (1 ≤ n) × (f .fd + span ≤ low)
+abbrev pub FitsPart : Frame → First → ℕ → ℕ → Type 0
+FitsPart f (Absolute n) span low = (f .fd ≤ n) × (n + span ≤ low)
+FitsPart f (NextPage n) span low = (f .fd ≤ n) × (n + span ≤ low)
+FitsPart f (Relative n) span low = (1 ≤ n) × (f .fd + span ≤ low)
 
 -- what D2 and D6 say of a page and a body group
 pub record Described (f : Frame) (b : Body) : Type 0 where
   pub head : f .head < f .fd
   pub low : b .low ≤ f .ft
-  pub room : Room f (b .first) (b .span) (b .low)
+  pub room : FitsPart f (b .first) (b .span) (b .low)
 
 -- D5: "Next group only on CH, DE, CF: absolute FD to FT, relative 1 to 999"
 abbrev pub NextIn : Frame → Next → Type 0
-NextIn f Stay = Unit {0}
-NextIn f (LineNo k) = (f .fd ≤ k) × (k ≤ f .ft)
-NextIn f (Skip k) = 1 ≤ k
-NextIn f Page = Unit {0}
+NextIn f next.None = Unit {0}
+NextIn f (next.Absolute k) = (f .fd ≤ k) × (k ≤ f .ft)
+NextIn f (next.Relative k) = 1 ≤ k
+NextIn f next.NextPage = Unit {0}
 
 -- "Running: .. line FD to FT if body-seen, below FD if not; saved 0, or FD to FT with body-seen and line FT"
 pub record Running (f : Frame) (s : Spot) : Type 0 where

@@ -27,10 +27,10 @@ pub struct Body {
 
 // A group's next-group clause: none, absolute, relative, next page.
 pub enum Next {
-    Stay,
-    LineNo(u16),
-    Skip(u16),
-    Page,
+    None,
+    Absolute(u16),
+    Relative(u16),
+    NextPage,
 }
 
 // A place on a page: the line, whether a body group has printed there, the saved integer.
@@ -211,12 +211,12 @@ pub fn follow(ft: u16, g: Next, x: u16, saved: u16) -> Spot
     ensures { λ r. ⌜ r ≡ followed ft g x saved ⌝ }
 {
     match g {
-        Next::Stay => Spot {
+        Next::None => Spot {
             line: x,
             seen: true,
             saved,
         },
-        Next::LineNo(k) => {
+        Next::Absolute(k) => {
             if x < k {
                 Spot {
                     line: k,
@@ -231,7 +231,7 @@ pub fn follow(ft: u16, g: Next, x: u16, saved: u16) -> Spot
                 }
             }
         }
-        Next::Skip(k) => {
+        Next::Relative(k) => {
             if x as u32 + k as u32 <= ft as u32 {
                 Spot {
                     line: x + k,
@@ -246,7 +246,7 @@ pub fn follow(ft: u16, g: Next, x: u16, saved: u16) -> Spot
                 }
             }
         }
-        Next::Page => Spot {
+        Next::NextPage => Spot {
             line: ft,
             seen: true,
             saved,

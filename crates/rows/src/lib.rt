@@ -7,7 +7,7 @@ ghost use Rattle.number.specs.Value.{isNumber, numberOf, Value};
 ghost use Rattle.tables.specs.Table.{fieldKind};
 ghost use Rattle.rows.specs.Fields.{fieldPart, isText, wellFormed, firstMalformed};
 ghost use Rattle.rows.specs.Values.{valueOf, sameNumber, sameBytes, sameValue};
-ghost use Rattle.rows.specs.Breaks.{differs as differsSpec, breakLevel};
+ghost use Rattle.rows.specs.Breaks.{controlDiffers, breakLevel};
 ghost use Rattle.rows.specs.Facts.{Whole, Comparable, PartIn, FieldFormed};
 use number::parse;
 use tables::Head;
@@ -128,9 +128,9 @@ fn same_value(t: &[u16], kept: &[u8], row: &[u8], i: usize) -> bool
 }
 
 // Whether control `j` differs; FINAL never does.
-fn differs(t: &[u16], h: Head, kept: &[u8], row: &[u8], j: usize) -> bool
+fn control_differs(t: &[u16], h: Head, kept: &[u8], row: &[u8], j: usize) -> bool
     requires { ⌜ Comparable h (now t) (now kept) (now row) × (j < h .controls) ⌝ }
-    ensures { λ r. ⌜ r ≡ differsSpec h (now (t .entry)) (now (kept .entry)) (now (row .entry)) j ⌝ }
+    ensures { λ r. ⌜ r ≡ controlDiffers h (now (t .entry)) (now (kept .entry)) (now (row .entry)) j ⌝ }
 {
     let field = tables::control_num(t, h, j);
     if field == FINAL {
@@ -150,7 +150,7 @@ pub fn break_level(t: &[u16], h: Head, kept: &[u8], row: &[u8]) -> usize
         if n <= level {
             break level;
         }
-        if differs(t, h, kept, row, level) {
+        if control_differs(t, h, kept, row, level) {
             break level;
         }
         level += 1;

@@ -11,7 +11,7 @@ use Rattle.fits.specs.Starts.{present, startFrom, aboveHead}
 use Rattle.place.specs.declared.First.{First}
 use Rattle.place.specs.declared.First.the-variants.{Absolute, NextPage, Relative}
 use Rattle.place.specs.declared.Next.{Next}
-use Rattle.place.specs.declared.Next.the-variants.{Stay, LineNo, Skip, Page}
+use Rattle.place.specs.declared.Next.the-variants as next
 use Rattle.place.specs.declared.Body.{Body}
 use Rattle.place.specs.declared.Frame.{Frame}
 
@@ -21,7 +21,7 @@ asFirst kind n = cond (eqb kind 0) (Absolute n) (cond (eqb kind 1) (NextPage n) 
 
 -- "next-group kind (0 none, 1 absolute, 2 relative, 3 next page), its integer"
 abbrev pub asNext : ℕ → ℕ → Next
-asNext kind k = cond (eqb kind 0) Stay (cond (eqb kind 1) (LineNo k) (cond (eqb kind 2) (Skip k) Page))
+asNext kind k = cond (eqb kind 0) next.None (cond (eqb kind 1) (next.Absolute k) (cond (eqb kind 2) (next.Relative k) next.NextPage))
 
 abbrev pub firstOf : Head → List ℕ → ℕ → First
 firstOf h t g = asFirst (kindOf h t g) (firstInt h t g)

@@ -28,12 +28,16 @@ fn as_next(kind: usize, k: u16) -> Next
     ensures { λ r. ⌜ r ≡ asNext kind k ⌝ }
 {
     if kind == 0 {
-        return Next::Stay;
+        return Next::None;
     }
     if kind == 1 {
-        return Next::LineNo(k);
+        return Next::Absolute(k);
     }
-    if kind == 2 { Next::Skip(k) } else { Next::Page }
+    if kind == 2 {
+        Next::Relative(k)
+    } else {
+        Next::NextPage
+    }
 }
 
 // The next-group clause of group `g`.

@@ -2,13 +2,13 @@
 -- Assumes nothing.
 use mathlib.Core.Path.{ap, _∙_}
 use borrow.Author.Needs.{needs}
-use Rattle.amounts.specs.Totals.{settled, totalsFirst}
+use Rattle.amounts.specs.Totals.{oldIfRefused, totalsFirst}
 use Rattle.amounts.proofs.totals_first.Statement.{statement}
 use Rattle.amounts.proofs.totals_first.Tie as tie
 
 returns : tie.Need-returns
 unfolding totalsFirst
-returns c = c .settled .ensures ∙ ap (settled _) (c .before .subtotal .ensures _)
+returns c = c .old-if-refused .ensures ∙ ap (oldIfRefused _) (c .before .subtotal .ensures _)
 
 pub totals-first-spec : {M : Type 1} → statement M
 totals-first-spec =

@@ -3,13 +3,13 @@
 use mathlib.Core.Path.{ap, _∙_}
 use native.Mathlib.Omega.{arith}
 use borrow.Author.Needs.{needs}
-use Rattle.amounts.specs.Totals.{settled, totalsLast}
+use Rattle.amounts.specs.Totals.{oldIfRefused, totalsLast}
 use Rattle.amounts.proofs.totals_last.Statement.{statement}
 use Rattle.amounts.proofs.totals_last.Tie as tie
 
 returns : tie.Need-returns
 unfolding totalsLast
-returns c = c .settled .ensures ∙ ap (settled _) (c .before .footings .ensures)
+returns c = c .old-if-refused .ensures ∙ ap (oldIfRefused _) (c .before .footings .ensures)
 
 pub totals-last-spec : {M : Type 1} → statement M
 totals-last-spec =

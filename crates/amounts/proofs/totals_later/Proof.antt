@@ -4,7 +4,7 @@ use mathlib.Core.Path.{ap, _∙_}
 use borrow.Author.Needs.{needs}
 use Rattle.sums.specs.Subtotal.{subtotal}
 use Rattle.footing.proofs.Kept.{range-closed, work-range}
-use Rattle.amounts.specs.Totals.{footings, settled, totalsLater}
+use Rattle.amounts.specs.Totals.{footings, oldIfRefused, totalsLater}
 use Rattle.amounts.proofs.Kept.{footings-keeps}
 use Rattle.amounts.proofs.totals_later.Statement.{statement}
 use Rattle.amounts.proofs.totals_later.Tie as tie
@@ -18,7 +18,7 @@ subtotal-requires c κs =
 
 returns : tie.Need-returns
 unfolding totalsLater
-returns c = c .settled .ensures ∙ ap (settled _) (c .before .subtotal .ensures _ ∙ ap (subtotal _ _ _ _) (c .before .before .before .footings .ensures))
+returns c = c .old-if-refused .ensures ∙ ap (oldIfRefused _) (c .before .subtotal .ensures _ ∙ ap (subtotal _ _ _ _) (c .before .before .before .footings .ensures))
 
 pub totals-later-spec : {M : Type 1} → statement M
 totals-later-spec =

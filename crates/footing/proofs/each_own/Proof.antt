@@ -15,11 +15,11 @@ use Rattle.footing.proofs.each_own.Statement.{statement}
 use Rattle.footing.proofs.each_own.Tie as tie
 
 abbrev Inv-loop : tie.InvT-loop
-Inv-loop t h g b step ok sums₀ shown₀ n good₀ k₀ sums shown good k =
-    (k ≤ n) × ((totals good sums shown ≡ foldBelow k (atOwn h t g (stepOf h t g b step)) (totals ok sums₀ shown₀)) × (sumsOk sums ≡ true))
+Inv-loop t h s ok sums₀ shown₀ n good₀ k₀ sums shown good k =
+    (k ≤ n) × ((totals good sums shown ≡ foldBelow k (atOwn h t (s .group) (stepOf h t (s .group) (s .level) (s .step))) (totals ok sums₀ shown₀)) × (sumsOk sums ≡ true))
 
 abbrev μ-loop : tie.MeasureT-loop
-μ-loop t h g b step ok sums₀ shown₀ n good₀ k₀ sums shown good k = n - k
+μ-loop t h s ok sums₀ shown₀ n good₀ k₀ sums shown good k = n - k
 
 loop-holds : tie.Need-loop-holds Inv-loop μ-loop
 unfolding foldBelow
@@ -39,13 +39,14 @@ loop-again c =
     let l = c .before .before .before in
     let i = l .before .loop .inv .1 in
     let a = l .before .before .before .before .args in
+    let s = a .s in
     let e = c .own-counter .ensures in
     let k = l .before .loop .k in
-    let f = atOwn (a .h) (a .t .now) (a .g) (stepOf (a .h) (a .t .now) (a .g) (a .b) (a .step)) in (
+    let f = atOwn (a .h) (a .t .now) (s .group) (stepOf (a .h) (a .t .now) (s .group) (s .level) (s .step)) in (
       omega arith,
       (
         fold-next f k _ (i .0) e,
-        work-range (f k) {ok = l .before .loop .good} {shown = l .before .loop .shown} (λ x. at-own-keeps (a .h) (a .t .now) (range-closed _) (a .g) (a .b) (a .step) k (below l)) e (i .1),
+        work-range (f k) {ok = l .before .loop .good} {shown = l .before .loop .shown} (λ x. at-own-keeps (a .h) (a .t .now) (range-closed _) (s .group) (s .level) (s .step) k (below l)) e (i .1),
       ),
     )
 

@@ -6,12 +6,12 @@ use native.Mathlib.Omega.{arith}
 use borrow.Author.Needs.{needs}
 use Rattle.counts.specs.Below.{firstBelow}
 use Rattle.counts.proofs.Laws.{first-next, first-found}
-use Rattle.rows.specs.Breaks.{differs, breakLevel}
+use Rattle.rows.specs.Breaks.{controlDiffers, breakLevel}
 use Rattle.rows.proofs.break_level.Statement.{statement}
 use Rattle.rows.proofs.break_level.Tie as tie
 
 abbrev Inv-loop : tie.InvT-loop
-Inv-loop t h kept row n level₀ level = (level ≤ n) × (level ≡ firstBelow level (differs h t kept row))
+Inv-loop t h kept row n level₀ level = (level ≤ n) × (level ≡ firstBelow level (controlDiffers h t kept row))
 
 abbrev μ-loop : tie.MeasureT-loop
 μ-loop t h kept row n level₀ level = n - level
@@ -21,7 +21,7 @@ unfolding firstBelow
 loop-holds c = search needs
 
 loop-again : tie.Need-loop-again Inv-loop μ-loop
-loop-again c = (omega arith, first-next _ _ (c .before .before .before .loop .inv .1) (c .before .differs .ensures) (c .if2 .left))
+loop-again c = (omega arith, first-next _ _ (c .before .before .before .loop .inv .1) (c .before .control-differs .ensures) (c .if2 .left))
 
 returns : tie.Need-returns Inv-loop μ-loop
 unfolding breakLevel
@@ -34,7 +34,7 @@ returns-2 : tie.Need-returns-2 Inv-loop μ-loop
 unfolding breakLevel
 returns-2 c =
     let b = c .before .before .before in
-    (first-found _ (c .before .before .if1 .left) (b .before .wide .ensures .is) (b .loop .inv .1) (c .before .differs .ensures) (c .if2 .taken), omega arith)
+    (first-found _ (c .before .before .if1 .left) (b .before .wide .ensures .is) (b .loop .inv .1) (c .before .control-differs .ensures) (c .if2 .taken), omega arith)
 
 pub break-level-spec : {M : Type 1} → statement M
 break-level-spec =

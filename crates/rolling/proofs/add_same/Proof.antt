@@ -1,4 +1,4 @@
--- `footing::add_same` meets its contract: D8 says that the addend's counter exists.
+-- `rolling::add_same` meets its contract: D8 says that the addend's counter exists.
 -- Assumes nothing.
 use Prim.Native.Nat.{_<_}
 use mathlib.Core.Path.{_≡_, refl, sym, _∙_}
@@ -11,9 +11,9 @@ use lib.ListN.{getD}
 use Rattle.counts.proofs.Laws.{and-l}
 use Rattle.sums.specs.Sums.{inRange}
 use Rattle.sums.proofs.Range.{read-in, sum-in}
-use Rattle.footing.specs.Rolling.{addSame}
-use Rattle.footing.proofs.add_same.Statement.{statement}
-use Rattle.footing.proofs.add_same.Tie as tie
+use Rattle.rolling.specs.Rolling.{addSame}
+use Rattle.rolling.proofs.add_same.Statement.{statement}
+use Rattle.rolling.proofs.add_same.Tie as tie
 
 -- the addend names a counter, which stands below 32
 named : (c : tie.Then1) → c .before .before .addend-num2 .result < 32

@@ -1,4 +1,4 @@
--- `footing::cross_counter` meets its contract. The invariant: the addends passed are added, and the sums are in range.
+-- `rolling::cross_counter` meets its contract. The invariant: the addends passed are added, and the sums are in range.
 -- Assumes nothing.
 use Prim.Native.Nat.{_≤_, _-_, _+_}
 use mathlib.Core.Path.{_≡_, refl}
@@ -11,10 +11,10 @@ use Rattle.sums.specs.Subtotal.{eachAddend}
 use Rattle.sums.specs.Sums.{sumsOk, Does}
 use Rattle.sums.proofs.Folds.{fold-end}
 use Rattle.sums.proofs.Range.{does-range}
-use Rattle.footing.specs.Rolling.{addSame, crossCounter}
-use Rattle.footing.proofs.Kept.{range-closed, add-same-keeps}
-use Rattle.footing.proofs.cross_counter.Statement.{statement}
-use Rattle.footing.proofs.cross_counter.Tie as tie
+use Rattle.rolling.specs.Rolling.{addSame, crossCounter}
+use Rattle.rolling.proofs.Kept.{range-adds, add-same-keeps}
+use Rattle.rolling.proofs.cross_counter.Statement.{statement}
+use Rattle.rolling.proofs.cross_counter.Tie as tie
 
 abbrev Inv-loop : tie.InvT-loop
 Inv-loop t h g k ok sums₀ first n good₀ j₀ sums good j =
@@ -44,7 +44,7 @@ loop-again c =
     let l = c .before .before .before .loop in
     let b = c .before .before .before .before .before .before .before in
     let e = c .add-same .ensures in
-    (omega arith, (λ shown. fold-next _ _ _ (l .inv .1 .0 shown) (e shown), does-range (addSame _ _ _ _ _) (λ a. add-same-keeps _ _ (range-closed _) _ _ _ (b .pre .1)) e (l .inv .1 .1)))
+    (omega arith, (λ shown. fold-next _ _ _ (l .inv .1 .0 shown) (e shown), does-range (addSame _ _ _ _ _) (λ a. add-same-keeps _ _ (range-adds _) _ _ _ (b .pre .1)) e (l .inv .1 .1)))
 
 returns : tie.Need-returns Inv-loop μ-loop
 unfolding crossCounter eachAddend

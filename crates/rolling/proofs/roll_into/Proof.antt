@@ -1,4 +1,4 @@
--- `footing::roll_into` meets its contract, by cases on its two tests.
+-- `rolling::roll_into` meets its contract, by cases on its two tests.
 -- Assumes nothing.
 use mathlib.Core.Path.{_≡_, refl, sym, _∙_}
 use native.Mathlib.Omega.{arith}
@@ -7,9 +7,9 @@ use borrow.Author.Tests.{lt-ltb, le-ltb}
 use mir.Syntax.{w64}
 use mir.ValLaws.{toZ-ofZ}
 use Rattle.tables.specs.Table.{levelOf, counterGroup}
-use Rattle.footing.specs.Rolling.{rollInto}
-use Rattle.footing.proofs.roll_into.Statement.{statement}
-use Rattle.footing.proofs.roll_into.Tie as tie
+use Rattle.rolling.specs.Rolling.{rollInto}
+use Rattle.rolling.proofs.roll_into.Statement.{statement}
+use Rattle.rolling.proofs.roll_into.Tie as tie
 
 -- the level of the counter's group
 level : (c : tie.After-group-num) → c .group-num .result ≡ levelOf (c .before .before .before .args .h) (c .before .before .before .args .t .now) (counterGroup (c .before .before .before .args .h) (c .before .before .before .args .t .now) (c .before .before .before .args .s))

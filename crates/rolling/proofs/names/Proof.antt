@@ -1,4 +1,4 @@
--- `footing::names` meets its contract. The invariant: no addend passed names the counter.
+-- `rolling::names` meets its contract. The invariant: no addend passed names the counter.
 -- Assumes nothing.
 use mathlib.Core.Bool.{_&&_}
 use lib.Dec.{eqb}
@@ -10,9 +10,9 @@ use borrow.Author.Tests.{lt-ltb, le-ltb}
 use Rattle.counts.specs.Below.{firstBelow}
 use Rattle.counts.proofs.Laws.{first-next, first-found}
 use Rattle.tables.specs.Table.{addendCount}
-use Rattle.footing.specs.Rolling.{namesAt, names}
-use Rattle.footing.proofs.names.Statement.{statement}
-use Rattle.footing.proofs.names.Tie as tie
+use Rattle.rolling.specs.Rolling.{namesAt, names}
+use Rattle.rolling.proofs.names.Statement.{statement}
+use Rattle.rolling.proofs.names.Tie as tie
 
 abbrev Inv-loop : tie.InvT-loop
 Inv-loop t h s k first n j₀ j = (j ≤ n) × (j ≡ firstBelow j (namesAt h t s k))

@@ -1,15 +1,14 @@
--- Crossfoot, roll-up, what a footing shows, and resets, each of one counter.
+-- Crossfoot and roll-up of one counter.
 use Prim.Native.Nat.{ℕ, _+_}
-use mathlib.Core.Bool.{Bool, cond, _&&_, not}
+use mathlib.Core.Bool.{Bool, cond, _&&_}
 use mathlib.Core.List.{List}
-use lib.Dec.{eqb, ltb, leb}
-use lib.IntN.{ℤ, pos}
-use lib.ListN.{set}
+use lib.Dec.{eqb, ltb}
+use lib.IntN.{ℤ}
 use Rattle.counts.specs.Below.{firstBelow, foldBelow}
 use Rattle.tables.specs.declared.Head.{Head}
-use Rattle.tables.specs.Table.{control, final, levelOf, counterGroup, resetLevel, firstAddend, addendCount, addendKind, addendIndex}
+use Rattle.tables.specs.Table.{levelOf, counterGroup, firstAddend, addendCount, addendKind, addendIndex}
 use Rattle.sums.specs.declared.Totals.{Totals}
-use Rattle.sums.specs.Sums.{sumAt, put, addAt}
+use Rattle.sums.specs.Sums.{sumAt, addAt}
 use Rattle.sums.specs.Subtotal.{eachAddend}
 
 -- addend a names a counter of group g
@@ -41,14 +40,3 @@ rollInto h t level k x s acc = cond (senior h t level s && names h t s k) (addAt
 -- "then in order each is added to every more senior counter naming it, in counter order"
 unfoldable pub rollCounter : Head → List ℕ → ℕ → ℕ → Totals → Totals
 rollCounter h t g k acc = foldBelow (h .counters) (rollInto h t (levelOf h t g) k (sumAt k acc)) acc
-
--- "then it prints": the sum is shown as it is then
-abbrev pub showCounter : ℕ → Totals → Totals
-showCounter k acc = record { ok = acc .ok; sums = acc .sums; shown = set (acc .shown) k (sumAt k acc) }
-
--- "then its own counters with reset level ≥ b go to 0, except where that level is FINAL"
-abbrev pub resets : Head → List ℕ → ℕ → ℕ → Bool
-resets h t b k = leb b (resetLevel h t k) && not (eqb (control h t (resetLevel h t k)) final)
-
-abbrev pub resetCounter : Head → List ℕ → ℕ → ℕ → Totals → Totals
-resetCounter h t b k acc = cond (resets h t b k) (put k (pos 0) acc) acc

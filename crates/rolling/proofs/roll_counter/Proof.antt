@@ -1,4 +1,4 @@
--- `footing::roll_counter` meets its contract. The invariant: the counters passed are rolled into, and the sums are in range.
+-- `rolling::roll_counter` meets its contract. The invariant: the counters passed are rolled into, and the sums are in range.
 -- Assumes nothing.
 use Prim.Native.Nat.{_≤_, _<_, _-_}
 use mathlib.Core.Path.{_≡_, refl}
@@ -12,10 +12,10 @@ use lib.ListN.{getD}
 use Rattle.sums.specs.Sums.{inRange, sumsOk, Does}
 use Rattle.sums.proofs.Folds.{fold-end}
 use Rattle.sums.proofs.Range.{read-in, sum-in, does-range}
-use Rattle.footing.specs.Rolling.{rollInto, rollCounter}
-use Rattle.footing.proofs.Kept.{range-closed, roll-into-keeps}
-use Rattle.footing.proofs.roll_counter.Statement.{statement}
-use Rattle.footing.proofs.roll_counter.Tie as tie
+use Rattle.rolling.specs.Rolling.{rollInto, rollCounter}
+use Rattle.rolling.proofs.Kept.{range-adds, roll-into-keeps}
+use Rattle.rolling.proofs.roll_counter.Statement.{statement}
+use Rattle.rolling.proofs.roll_counter.Tie as tie
 
 abbrev Inv-loop : tie.InvT-loop
 Inv-loop t h g k ok sums₀ level n x good₀ s₀ sums good s =
@@ -45,7 +45,7 @@ loop-again c =
     let l = c .before .before .before .loop in
     let b = c .before .before .before .before .before .before .before .before in
     let e = rw (read-in _ (in-range b)) at (c .roll-into .ensures) in
-    (omega arith, (λ shown. fold-next _ _ _ (l .inv .1 .0 shown) (e shown), does-range (rollInto _ _ _ _ _ _) (λ a. roll-into-keeps _ _ (range-closed _) _ _ _ _ (below (c .before .before))) e (l .inv .1 .1)))
+    (omega arith, (λ shown. fold-next _ _ _ (l .inv .1 .0 shown) (e shown), does-range (rollInto _ _ _ _ _ _) (λ a. roll-into-keeps _ _ (range-adds _) _ _ _ _ (below (c .before .before))) e (l .inv .1 .1)))
 
 returns : tie.Need-returns Inv-loop μ-loop
 unfolding rollCounter

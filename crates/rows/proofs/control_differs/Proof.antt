@@ -1,4 +1,4 @@
--- `rows::differs` meets its contract, by cases on FINAL.
+-- `rows::control_differs` meets its contract, by cases on FINAL.
 -- Assumes nothing.
 use mathlib.Core.Path.{_≡_, refl, sym, ap, _∙_}
 use mathlib.Core.Bool.{false, not}
@@ -6,10 +6,10 @@ use borrow.Author.Needs.{needs}
 use borrow.Author.Tests.{eq-eqb, ne-eqb}
 use lib.Dec.{eqb}
 use Rattle.tables.specs.Table.{control, final}
-use Rattle.rows.specs.Breaks.{differs}
+use Rattle.rows.specs.Breaks.{controlDiffers}
 use Rattle.rows.proofs.Fields.{field-formed}
-use Rattle.rows.proofs.differs.Statement.{statement}
-use Rattle.rows.proofs.differs.Tie as tie
+use Rattle.rows.proofs.control_differs.Statement.{statement}
+use Rattle.rows.proofs.control_differs.Tie as tie
 
 -- the control is a field's where it is not FINAL
 not-final : (c : tie.Else1) → eqb (control (c .before .before .before .before .before .args .h) (c .before .before .before .before .before .args .t .now) (c .before .before .before .before .before .args .j)) final ≡ false
@@ -23,12 +23,12 @@ same-value-requires c κs =
     (field-formed (f .result) l (f .ensures .small) (b .pre .0 .keptFormed), field-formed (f .result) l (f .ensures .small) (b .pre .0 .rowFormed))
 
 returns : tie.Need-returns
-unfolding differs
+unfolding controlDiffers
 returns c = rw (eq-eqb _ final (sym (c .before .control-num .ensures .is) ∙ c .if1 .taken)) refl
 
 returns-2 : tie.Need-returns-2
-unfolding differs
+unfolding controlDiffers
 returns-2 c = rw (not-final (c .before), ← c .before .before .control-num .ensures .is) (ap not (c .same-value .ensures))
 
-pub differs-spec : {M : Type 1} → statement M
-differs-spec = tie.close (tie.spec (λ c κs. search needs) returns same-value-requires returns-2)
+pub control-differs-spec : {M : Type 1} → statement M
+control-differs-spec = tie.close (tie.spec (λ c κs. search needs) returns same-value-requires returns-2)
