@@ -1,0 +1,166 @@
+-- The exported calls on bytes: demand 1 of each, and a run of them as the run over values.
+-- Assumes nothing.
+use Prim.Native.Nat.{ℕ, _≤_}
+use mathlib.Core.Path.{_≡_, refl, sym, ap, ap₂, _∙_}
+use mathlib.Core.Bool.{Bool, true, false, cond}
+use mathlib.Core.List.{List, [], _∷_, _++_, map}
+use mathlib.Core.Logic.{_⊎_, inl, inr, ⊎-elim}
+use native.Mathlib.Omega.{arith}
+use borrow.Author.Tests.{eqb-true}
+use lib.Dec.{eqb}
+use lib.ListN.{length, set, replicate, take, length-set, length-replicate}
+use Rattle.counts.proofs.Laws.{by-test, by-cond}
+use Rattle.tables.specs.declared.Head.{Head}
+use Rattle.tables.specs.Head.{headOf}
+use Rattle.tables.specs.Table.{table, literals, lineCount}
+use Rattle.lookup.specs.Find.{theDetail, details}
+use Rattle.description.specs.declared.Checked.the-variants.{Accepted}
+use Rattle.description.specs.Check.{checked}
+use Rattle.accepted.specs.Accepted as facts
+use Rattle.accepted.proofs.Accept.{accepted}
+use Rattle.sums.specs.Sums.{sumsOk}
+use Rattle.pages.specs.Outcome.{pastLast, tooShort, outcome}
+use Rattle.state.specs.Rules.{started}
+use Rattle.state.specs.Kept.{flagsSet}
+use Rattle.state.proofs.States.{by-phase}
+use Rattle.report.specs.declared.Report.{Report}
+use Rattle.report.specs.declared.Answer.{Answer}
+use Rattle.report.specs.Verdict.{number}
+use Rattle.report.specs.Verdict as verdicts
+use Rattle.report.specs.State.{freshAt, keeps}
+use Rattle.report.specs.Result.{Result, Work, settled}
+use Rattle.report.specs.Calls.{cleared, flagsAt, breaks, firstWork, laterWork, rowWork, lastWork}
+use Rattle.state_bytes.specs.Bytes.{bytesOf, stateOf}
+use Rattle.state_bytes.proofs.Again.{state-again, in-bytes}
+use Rattle.report_c.specs.Leaves.{stored, Leaves}
+use Rattle.book.specs.Book.{Call, Book, freshBook, enter}
+use Rattle.book.specs.Demand.{Use, answer, taken, Done, did, run, printed}
+use Rattle.book.proofs.Laws.{Laws}
+use Rattle.book.proofs.Supply.{laws}
+use Rattle.book.proofs.Calls.{Tracks, call-ok, fresh-tracks}
+use Rattle.demands.specs.Calls.{Refuses, Works}
+use Rattle.demands.specs.Bytes.{Left, numberIn, printedBytes, leaving, leaves, runBytes, RefusesBytes, WorksBytes, Demand1Bytes, written, freshBytes, SameRun}
+use Rattle.demands.proofs.Branches.{Branches, each-call}
+use Rattle.demands.proofs.Calls.{whole, refusal}
+
+-- a call accepted has number 0, so one with a number above 0 was not
+not-accepted : (n : ℕ) → 1 ≤ n → eqb n 0 ≡ false
+not-accepted n l = by-test (eqb n 0) (λ e. absurd (omega (arith, eqb-true n 0 e))) (λ e. e)
+
+is-accepted : (n : ℕ) → n ≡ 0 → eqb n 0 ≡ true
+is-accepted n e = rw e refl
+
+module _ (d : List ℕ) where
+  -- what the promise of an exported call says it leaves
+  pub promised : (old : List ℕ) (u : Use) (state out ans : List ℕ) → Leaves (answer d (stateOf old) (u .call) (u .out)) old state out ans
+      → record { state = state; out = out; numbers = ans } ≡ leaves d old u
+  promised old u state out ans e = rw (e .stateIs, e .outIs, e .answerIs) refl
+
+  -- ---- demand 1
+  module _ (old : List ℕ) (u : Use) where
+    abbrev r : Result
+    r = answer d (stateOf old) (u .call) (u .out)
+
+    kept-bytes : Refuses (stateOf old) (u .out) r → leaves d old u .state ≡ old
+    kept-bytes e = rw (not-accepted (number (r .answer .verdict)) (e .listed .0)) refl
+
+    whole-bytes : WorksBytes d u (leaves d old u) ⊎ RefusesBytes d old u (leaves d old u)
+    whole-bytes =
+        ⊎-elim (λ (w : Works d (stateOf old) (u .call) (u .out) r). inl (record { accepted = w .accepted; room = w .room; size = w .size; rest = w .rest }))
+        (λ (e : Refuses (stateOf old) (u .out) r). inr (record { listed = e .listed; count = e .count; state = kept-bytes e; output = e .output }))
+        (whole d (stateOf old) (u .out) (u .call))
+
+    pub demand1-bytes : Demand1Bytes d old u
+    demand1-bytes = record {
+      whole = whole-bytes;
+      once = λ l next. ap (λ (b : List ℕ). leaves d b next) (kept-bytes (refusal d (stateOf old) (u .out) (u .call) (not-accepted (number (r .answer .verdict)) l)));
+    }
+
+  -- ---- eight flags stay eight
+  module _ (s : Report) (out : List ℕ) (f : length (s .flags) ≡ 8) where
+    abbrev Eight : Call → Result → Type 0
+    Eight c r = length (r .answer .report .flags) ≡ 8
+
+    settled-eight : (h : Head) (t : List ℕ) (w : Work) → length (w .flags) ≡ 8 → length (settled h t s w out .answer .report .flags) ≡ 8
+    unfolding settled outcome
+    settled-eight h t w g =
+        by-test (w .ok)
+        (λ o. by-test (pastLast (w .laid)) (λ p. rw (o, p) f) (λ p. by-test (tooShort h t (length out) (w .laid)) (λ q. rw (o, p, q) f) (λ q. rw (o, p, q) g)))
+        (λ o. rw o f)
+
+    cleared-eight : (h : Head) (t : List ℕ) (i : ℕ) (flags : List Bool) → length flags ≡ 8 → length (cleared h t i flags) ≡ 8
+    cleared-eight h t i flags g = by-cond (λ (l : List Bool). length l ≡ 8) (eqb (lineCount h t (theDetail h t i)) 0) (λ e. g) (λ e. length-set flags i false ∙ g)
+
+    set-eight : (n : ℕ) → length (flagsSet n) ≡ 8
+    unfolding flagsSet
+    set-eight n = refl
+
+    row-eight : (h : Head) (t lits : List ℕ) (i : ℕ) (row : List ℕ) → length (rowWork h t lits s i row .flags) ≡ 8
+    unfolding firstWork laterWork
+    row-eight h t lits i row =
+        by-test (eqb (s .phase) started) (λ e. rw e (cleared-eight h t i (flagsSet (details h t)) (set-eight (details h t))))
+        (λ e. rw e (cleared-eight h t i _ (by-cond (λ (l : List Bool). length l ≡ 8) (breaks h _) (λ b. set-eight (details h t)) (λ b. f))))
+
+    last-eight : (h : Head) (t lits : List ℕ) → length (lastWork h t lits s .flags) ≡ 8
+    unfolding lastWork
+    last-eight h t lits = f
+
+    pub eight : (c : Call) → Eight c (answer d s c out)
+    eight =
+        each-call d s out Eight
+        (record {
+          no = λ c v a b. f;
+          silent = λ c phase e. length-replicate 8 false;
+          row = λ a i row. settled-eight _ _ _ (row-eight (headOf d) (table d) (literals d) i row);
+          last = λ a e. settled-eight _ _ _ (last-eight (headOf d) (table d) (literals d));
+        })
+
+  -- ---- the run
+  module _ (a : checked d ≡ Accepted) where
+    abbrev h : Head
+    h = headOf d
+
+    abbrev t : List ℕ
+    t = table d
+
+    A : facts.Accepted h t (literals d)
+    A = accepted d a
+
+    L : Laws h t
+    L = laws h t (literals d) A
+
+    abbrev Tracked : Report → Book → Type 0
+    Tracked s b = Tracks d a A L s b
+
+    in-range : (s : Report) (b : Book) → Tracked s b → sumsOk (s .sums) ≡ true
+    in-range s b T =
+        by-phase h t (s .page) (s .line) (s .seen) (s .saved) (s .sums) (s .flags) (s .kept) (s .phase) (T .kept) (λ e. L .idle-facts s e (T .kept) .sumsIn)
+        (λ e. rw (T .begins e .0) (L .zero-sums .range))
+        (λ e. L .run-facts s e (T .kept) .sumsIn)
+
+    -- a state that the run hands on, read from its bytes, is the state
+    read-back : (s : Report) (b : Book) → Tracked s b → length (s .flags) ≡ 8 → stateOf (bytesOf s) ≡ s
+    read-back s b T f = state-again s (in-bytes s (T .sumsLong) f (in-range s b T))
+
+    stored-next : (s : Report) (u : Use) → stored (bytesOf s) (did d s u .result .answer) ≡ bytesOf (did d s u .result .answer .report)
+    stored-next s u =
+        by-test (taken d (did d s u .result)) (λ e. rw e refl)
+        (λ e. rw e (sym (ap bytesOf (refusal d s (u .out) (u .call) e .state))))
+
+    step : (s : Report) (b : Book) → Tracked s b → length (s .flags) ≡ 8 → (u : Use) → leaves d (bytesOf s) u ≡ written d (did d s u)
+    step s b T f u =
+        ap (λ (x : Report). leaving d (bytesOf s) (answer d x (u .call) (u .out))) (read-back s b T f)
+        ∙ ap (λ (x : List ℕ). record { state = x; out = did d s u .result .out; numbers = written d (did d s u) .numbers }) (stored-next s u)
+
+    runs : (us : List Use) (s : Report) (b : Book) → Tracked s b → length (s .flags) ≡ 8 → runBytes d (bytesOf s) us ≡ map (written d) (run d s us)
+    unfolding runBytes run
+    runs [] s b T f = refl
+    runs (u ∷ us) s b T f =
+        let e = step s b T f u in
+        let next = did d s u .result .answer .report in
+        ap₂ _∷_ e
+        (ap (λ (l : Left). runBytes d (l .state) us) e
+        ∙ runs us next _ (call-ok d a A L s b T (u .out) (u .call) .next) (eight s (u .out) f (u .call)))
+
+    pub same-run : (us : List Use) → SameRun d us
+    same-run us = runs us (freshAt 0) freshBook (fresh-tracks d a A L) (length-replicate 8 false)

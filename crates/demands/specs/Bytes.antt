@@ -1,0 +1,70 @@
+-- The exported calls over the 530 bytes of a state: what one leaves, a run of them, and demands 1 and 3 of both.
+use Prim.Native.Nat.{ℕ, _≤_}
+use mathlib.Core.Path.{_≡_}
+use mathlib.Core.List.{List, [], _∷_, _++_, map}
+use mathlib.Core.Logic.{_⊎_}
+use lib.ListN.{length, getD, take, drop}
+use Rattle.report.specs.State.{freshAt}
+use Rattle.report.specs.Result.{Result}
+use Rattle.state_bytes.specs.Bytes.{bytesOf, stateOf}
+use Rattle.report_c.specs.Leaves.{stored, numbers}
+use Rattle.book.specs.Demand.{Use, answer, Done, run}
+
+-- the bytes of the state, the output, and the three numbers of the answer: number, extra number, count
+pub record Left : Type 0 where
+  pub state : List ℕ
+  pub out : List ℕ
+  pub numbers : List ℕ
+
+abbrev pub numberIn : Left → ℕ
+numberIn l = getD (l .numbers) 0 0
+
+abbrev pub countIn : Left → ℕ
+countIn l = getD (l .numbers) 2 0
+
+-- the first count bytes of the outputs, joined in order
+unfoldable pub printedBytes : List Left → List ℕ
+printedBytes [] = []
+printedBytes (l ∷ ls) = take (countIn l) (l .out) ++ printedBytes ls
+
+module _ (d : List ℕ) where
+  -- what a result leaves, given the state's bytes before the call: `Leaves`, which the promises of the exported calls cite, as a value
+  abbrev pub leaving : List ℕ → Result → Left
+  leaving old r = record { state = stored old (r .answer); out = r .out; numbers = numbers (r .answer) }
+
+  -- an exported call: the state is read from its bytes, the call answers, the next state's bytes are stored (INITIATE is lent no output)
+  abbrev pub leaves : List ℕ → Use → Left
+  leaves old u = leaving old (answer d (stateOf old) (u .call) (u .out))
+
+  -- the first call gets the bytes old, each later one the bytes that the call before left
+  unfoldable pub runBytes : List ℕ → List Use → List Left
+  runBytes old [] = []
+  runBytes old (u ∷ us) = leaves old u ∷ runBytes (leaves old u .state) us
+
+  -- ---- demand 1: "A refusal gives the old state back and touches no byte of the output"
+  pub record RefusesBytes (old : List ℕ) (u : Use) (l : Left) : Type 0 where
+    pub listed : (1 ≤ numberIn l) × (numberIn l ≤ 9)
+    pub count : countIn l ≡ 0
+    pub state : l .state ≡ old
+    pub output : l .out ≡ u .out
+
+  pub record WorksBytes (u : Use) (l : Left) : Type 0 where
+    pub accepted : numberIn l ≡ 0
+    pub room : countIn l ≤ length (u .out)
+    pub size : length (l .out) ≡ length (u .out)
+    pub rest : drop (countIn l) (l .out) ≡ drop (countIn l) (u .out)
+
+  pub record Demand1Bytes (old : List ℕ) (u : Use) : Type 0 where
+    pub whole : WorksBytes u (leaves old u) ⊎ RefusesBytes old u (leaves old u)
+    -- "so a repeated call counts once": after a refusal every call leaves what it would have left without it
+    pub once : 1 ≤ numberIn (leaves old u) → (next : Use) → leaves (leaves old u .state) next ≡ leaves old next
+
+  -- ---- demand 3: the run on bytes is the run over values, written
+  abbrev pub written : Done d → Left
+  written x = record { state = bytesOf (x .result .answer .report); out = x .result .out; numbers = numbers (x .result .answer) }
+
+  abbrev pub freshBytes : List ℕ
+  freshBytes = bytesOf (freshAt 0)
+
+  abbrev pub SameRun : List Use → Type 0
+  SameRun us = runBytes freshBytes us ≡ map written (run d (freshAt 0) us)
