@@ -38,8 +38,9 @@ use Rattle.book.specs.Demand.{Use, answer, taken, Done, did, run, printed}
 use Rattle.book.proofs.Laws.{Laws}
 use Rattle.book.proofs.Supply.{laws}
 use Rattle.book.proofs.Calls.{Tracks, call-ok, fresh-tracks}
+use Rattle.book.proofs.Theorem.{demand3}
 use Rattle.demands.specs.Calls.{Refuses, Works}
-use Rattle.demands.specs.Bytes.{Left, numberIn, printedBytes, leaving, leaves, runBytes, RefusesBytes, WorksBytes, Demand1Bytes, written, freshBytes, SameRun}
+use Rattle.demands.specs.Bytes.{Left, numberIn, printedBytes, leaving, leaves, runBytes, RefusesBytes, WorksBytes, Demand1Bytes, written, freshBytes, Demand3Bytes}
 use Rattle.demands.proofs.Branches.{Branches, each-call}
 use Rattle.demands.proofs.Calls.{whole, refusal}
 
@@ -162,5 +163,12 @@ module _ (d : List ℕ) where
         (ap (λ (l : Left). runBytes d (l .state) us) e
         ∙ runs us next _ (call-ok d a A L s b T (u .out) (u .call) .next) (eight s (u .out) f (u .call)))
 
-    pub same-run : (us : List Use) → SameRun d us
-    same-run us = runs us (freshAt 0) freshBook (fresh-tracks d a A L) (length-replicate 8 false)
+    printed-written : (xs : List (Done d)) → printedBytes (map (written d) xs) ≡ printed d xs
+    unfolding printedBytes printed
+    printed-written [] = refl
+    printed-written (x ∷ xs) = ap (λ (l : List ℕ). take (x .result .answer .count) (x .result .out) ++ l) (printed-written xs)
+
+    pub demand3-bytes : (us : List Use) → Demand3Bytes d us
+    demand3-bytes us =
+        let e = runs us (freshAt 0) freshBook (fresh-tracks d a A L) (length-replicate 8 false) in
+        record { same = e; prints = ap printedBytes e ∙ printed-written (run d (freshAt 0) us); demand3 = demand3 d a us }

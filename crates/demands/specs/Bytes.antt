@@ -8,7 +8,7 @@ use Rattle.report.specs.State.{freshAt}
 use Rattle.report.specs.Result.{Result}
 use Rattle.state_bytes.specs.Bytes.{bytesOf, stateOf}
 use Rattle.report_c.specs.Leaves.{stored, numbers}
-use Rattle.book.specs.Demand.{Use, answer, Done, run}
+use Rattle.book.specs.Demand.{Use, answer, Done, run, printed, Demand3}
 
 -- the bytes of the state, the output, and the three numbers of the answer: number, extra number, count
 pub record Left : Type 0 where
@@ -66,5 +66,10 @@ module _ (d : List ℕ) where
   abbrev pub freshBytes : List ℕ
   freshBytes = bytesOf (freshAt 0)
 
-  abbrev pub SameRun : List Use → Type 0
-  SameRun us = runBytes freshBytes us ≡ map written (run d (freshAt 0) us)
+  pub record Demand3Bytes (us : List Use) : Type 0 where
+    -- call by call the same numbers, the same output, and the same state, as bytes
+    pub same : runBytes freshBytes us ≡ map written (run d (freshAt 0) us)
+    -- so the same bytes are printed
+    pub prints : printedBytes (runBytes freshBytes us) ≡ printed d (run d (freshAt 0) us)
+    -- of which demand 3 says what they are
+    pub demand3 : Demand3 d (run d (freshAt 0) us)
