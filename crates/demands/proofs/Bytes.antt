@@ -65,9 +65,9 @@ module _ (d : List ℕ) where
     kept-bytes : Refuses (stateOf old) (u .out) r → leaves d old u .state ≡ old
     kept-bytes e = rw (not-accepted (number (r .answer .verdict)) (e .listed .0)) refl
 
-    whole-bytes : WorksBytes d u (leaves d old u) ⊎ RefusesBytes d old u (leaves d old u)
+    whole-bytes : WorksBytes d old u (leaves d old u) ⊎ RefusesBytes d old u (leaves d old u)
     whole-bytes =
-        ⊎-elim (λ (w : Works d (stateOf old) (u .call) (u .out) r). inl (record { accepted = w .accepted; room = w .room; size = w .size; rest = w .rest }))
+        ⊎-elim (λ (w : Works d (stateOf old) (u .call) (u .out) r). inl (record { accepted = w .accepted; lines = w .lines; count = w .count; room = w .room; size = w .size; rest = w .rest }))
         (λ (e : Refuses (stateOf old) (u .out) r). inr (record { listed = e .listed; count = e .count; state = kept-bytes e; output = e .output }))
         (whole d (stateOf old) (u .out) (u .call))
 

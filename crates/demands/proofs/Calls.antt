@@ -3,7 +3,7 @@
 use Prim.Native.Nat.{ℕ, _≤_}
 use mathlib.Core.Path.{_≡_, refl, sym, ap, _∙_}
 use mathlib.Core.Bool.{true, false, false≢true}
-use mathlib.Core.List.{List, []}
+use mathlib.Core.List.{List, [], _∷_}
 use mathlib.Core.Logic.{_⊎_, inl, inr, ⊎-elim}
 use native.Mathlib.Nat.{zero-add}
 use native.Mathlib.Omega.{arith}
@@ -32,7 +32,7 @@ use Rattle.report.specs.Verdict.{number}
 use Rattle.report.specs.Result.{Result, refuse, Work, settled}
 use Rattle.report.specs.Calls.{firstWork, laterWork, rowWork, lastWork}
 use Rattle.book.specs.Book.{Call, generate, terminate}
-use Rattle.book.specs.Demand.{answer, reads, taken}
+use Rattle.book.specs.Demand.{Use, answer, reads, taken, run, printed}
 use Rattle.demands.specs.Calls.{Refuses, work, Works, Demand1}
 use Rattle.demands.proofs.Branches.{Branches, each-call}
 
@@ -102,5 +102,9 @@ module _ (d : List ℕ) (s : Report) (out : List ℕ) where
   pub refusal : (c : Call) → taken d (answer d s c out) ≡ false → Refuses s out (answer d s c out)
   refusal c e = ⊎-elim (λ (w : Works d s c out (answer d s c out)). absurd (false≢true (sym e ∙ ap (λ (n : ℕ). eqb n 0) (w .accepted)))) (λ (r : Refuses s out (answer d s c out)). r) (whole c)
 
+  sheet-once : (c : Call) → taken d (answer d s c out) ≡ false → (us : List Use) → printed d (run d s (record { call = c; out = out } ∷ us)) ≡ printed d (run d s us)
+  unfolding run printed
+  sheet-once c e us = let r = refusal c e in rw (r .count, r .state) refl
+
   pub demand1 : (c : Call) → Demand1 d s c out
-  demand1 c = record { whole = whole c; once = λ e new. ap (λ (x : Report). answer d x c new) (refusal c e .state) }
+  demand1 c = record { whole = whole c; once = λ e new. ap (λ (x : Report). answer d x c new) (refusal c e .state); sheet = sheet-once c }

@@ -3,12 +3,13 @@
 use Rattle.book.proofs.Theorem.{demand3}
 use Rattle.demands.specs.Demands.{Demands}
 use Rattle.demands.proofs.Calls.{demand1}
-use Rattle.demands.proofs.Bytes.{demand1-bytes, demand3-bytes}
+use Rattle.demands.proofs.Bytes.{promised, demand1-bytes, demand3-bytes}
 use Rattle.demands.proofs.Rules.{exactly}
 
 pub demands : Demands
 demands = record {
   first = λ d s c out. demand1 d s out c;
+  exported = promised;
   firstBytes = demand1-bytes;
   second = exactly;
   third = demand3;

@@ -4,11 +4,15 @@ use mathlib.Core.Path.{_≡_}
 use mathlib.Core.List.{List, [], _∷_, _++_, map}
 use mathlib.Core.Logic.{_⊎_}
 use lib.ListN.{length, getD, take, drop}
+use Rattle.tables.specs.Head.{headOf}
+use Rattle.tables.specs.Table.{table}
+use Rattle.pages.specs.Bytes.{dueBytes, byteCount}
 use Rattle.report.specs.State.{freshAt}
 use Rattle.report.specs.Result.{Result}
 use Rattle.state_bytes.specs.Bytes.{bytesOf, stateOf}
 use Rattle.report_c.specs.Leaves.{stored, numbers}
-use Rattle.book.specs.Demand.{Use, answer, Done, run, printed, Demand3}
+use Rattle.book.specs.Demand.{Use, answer, reads, Done, run, printed, Demand3}
+use Rattle.demands.specs.Calls.{work}
 
 -- the bytes of the state, the output, and the three numbers of the answer: number, extra number, count
 pub record Left : Type 0 where
@@ -28,7 +32,7 @@ printedBytes [] = []
 printedBytes (l ∷ ls) = take (countIn l) (l .out) ++ printedBytes ls
 
 module _ (d : List ℕ) where
-  -- what a result leaves, given the state's bytes before the call: `Leaves`, which the promises of the exported calls cite, as a value
+  -- what a result leaves, given the state's bytes before the call: the three equations of `Leaves`, which the promises of the exported calls cite
   abbrev pub leaving : List ℕ → Result → Left
   leaving old r = record { state = stored old (r .answer); out = r .out; numbers = numbers (r .answer) }
 
@@ -48,14 +52,17 @@ module _ (d : List ℕ) where
     pub state : l .state ≡ old
     pub output : l .out ≡ u .out
 
-  pub record WorksBytes (u : Use) (l : Left) : Type 0 where
+  -- "does its whole work": as `Works` has it
+  pub record WorksBytes (old : List ℕ) (u : Use) (l : Left) : Type 0 where
     pub accepted : numberIn l ≡ 0
+    pub lines : take (countIn l) (l .out) ≡ dueBytes (headOf d) (table d) (reads d (stateOf old) (u .call)) (work d (stateOf old) (u .call))
+    pub count : countIn l ≡ byteCount (headOf d) (table d) (work d (stateOf old) (u .call))
     pub room : countIn l ≤ length (u .out)
     pub size : length (l .out) ≡ length (u .out)
     pub rest : drop (countIn l) (l .out) ≡ drop (countIn l) (u .out)
 
   pub record Demand1Bytes (old : List ℕ) (u : Use) : Type 0 where
-    pub whole : WorksBytes u (leaves old u) ⊎ RefusesBytes old u (leaves old u)
+    pub whole : WorksBytes old u (leaves old u) ⊎ RefusesBytes old u (leaves old u)
     -- "so a repeated call counts once": after a refusal every call leaves what it would have left without it
     pub once : 1 ≤ numberIn (leaves old u) → (next : Use) → leaves (leaves old u .state) next ≡ leaves old next
 

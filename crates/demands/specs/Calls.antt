@@ -2,7 +2,7 @@
 use Prim.Native.Nat.{ℕ, _≤_}
 use mathlib.Core.Path.{_≡_}
 use mathlib.Core.Bool.{false, cond}
-use mathlib.Core.List.{List, []}
+use mathlib.Core.List.{List, [], _∷_}
 use mathlib.Core.Logic.{_⊎_}
 use lib.Dec.{eqb}
 use lib.ListN.{length, take, drop}
@@ -16,7 +16,7 @@ use Rattle.report.specs.Verdict.{number}
 use Rattle.report.specs.Result.{Result}
 use Rattle.report.specs.Calls.{rowWork, lastWork}
 use Rattle.book.specs.Book.{Call, initiate, generate, terminate}
-use Rattle.book.specs.Demand.{answer, reads, taken}
+use Rattle.book.specs.Demand.{Use, answer, reads, taken, run, printed}
 
 -- "refuses by a number of the table. A refusal gives the old state back and touches no byte of the output"; document 01: "Every refusal returns
 -- its number, count 0 and the state handed in; the output stays untouched."
@@ -47,3 +47,5 @@ module _ (d : List ℕ) where
     pub whole : Works s c out (answer d s c out) ⊎ Refuses s out (answer d s c out)
     -- "so a repeated call counts once": a call that was refused, made again on the state that it gave back, gives what the one call gives
     pub once : taken d (answer d s c out) ≡ false → (new : List ℕ) → answer d (answer d s c out .answer .report) c new ≡ answer d s c new
+    -- and the sheet of the calls that follow is as if it had not been made
+    pub sheet : taken d (answer d s c out) ≡ false → (us : List Use) → printed d (run d s (record { call = c; out = out } ∷ us)) ≡ printed d (run d s us)

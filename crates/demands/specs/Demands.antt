@@ -18,10 +18,12 @@ use Rattle.description.specs.declared.Checked.the-variants.{Accepted}
 use Rattle.description.specs.Check.{checked}
 use Rattle.report.specs.declared.Report.{Report}
 use Rattle.report.specs.State.{freshAt}
+use Rattle.state_bytes.specs.Bytes.{stateOf}
+use Rattle.report_c.specs.Leaves.{Leaves}
 use Rattle.book.specs.Book.{Call}
-use Rattle.book.specs.Demand.{Use, run, Demand3}
+use Rattle.book.specs.Demand.{Use, answer, run, Demand3}
 use Rattle.demands.specs.Calls.{Demand1}
-use Rattle.demands.specs.Bytes.{Demand1Bytes, Demand3Bytes}
+use Rattle.demands.specs.Bytes.{leaves, Demand1Bytes, Demand3Bytes}
 
 -- document 01's rules of a description, D1 on its bytes and D2 to D8 on its tables
 pub record Keeps (d : List ℕ) : Type 0 where
@@ -38,7 +40,9 @@ pub record Demands : Type 0 where
   -- "1. Whatever bytes come in as description, state or record, each call does its whole work or refuses by a number of the table. A refusal gives
   -- the old state back and touches no byte of the output, so a repeated call counts once. Nobody has to check anything beforehand."
   pub first : (d : List ℕ) (s : Report) (c : Call) (out : List ℕ) → Demand1 d s c out
-  -- and so does each exported call, of the bytes of a state
+  -- and so does each exported call, on the bytes of a state: what its promise says that it leaves is `leaves`
+  pub exported : (d old : List ℕ) (u : Use) (state out answered : List ℕ) → Leaves (answer d (stateOf old) (u .call) (u .out)) old state out answered
+      → record { state = state; out = out; numbers = answered } ≡ leaves d old u
   pub firstBytes : (d old : List ℕ) (u : Use) → Demand1Bytes d old u
   -- "2. INITIATE, each GENERATE and TERMINATE print what the COBOL report writer's rules, as document 01 narrows them, say: same groups, lines,
   -- columns, sums, byte for byte." The promises of the calls in report/src/lib.rt say so: each returns what its definition in
