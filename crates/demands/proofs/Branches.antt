@@ -3,9 +3,10 @@
 -- Assumes nothing.
 use Prim.Native.Nat.{ℕ, _≤_}
 use mathlib.Core.Path.{_≡_, refl}
-use mathlib.Core.Bool.{true, false}
+use mathlib.Core.Bool.{false}
 use mathlib.Core.List.{List, []}
 use native.Mathlib.Omega.{arith}
+use borrow.Author.Tests.{eqb-true}
 use lib.Dec.{ltb, eqb}
 use lib.ListN.{length}
 use Rattle.counts.proofs.Laws.{by-test}
@@ -45,7 +46,7 @@ module _ (d : List ℕ) (s : Report) (out : List ℕ) where
   pub record Branches (P : Call → Result → Type 0) : Type 0 where
     pub no : (c : Call) (v : Verdict) → 1 ≤ number v → number v ≤ 9 → P c (refuse s out v)
     pub silent : (c : Call) (phase : ℕ) → work d s c ≡ [] → P c (record { answer = record { verdict = verdict.Accepted; count = 0; report = freshAt phase }; out = out })
-    pub row : checked d ≡ Accepted → (i : ℕ) (row : List ℕ) → P (generate i row) (settled h t s (rowWork h t (literals d) s i row) out)
+    pub row : checked d ≡ Accepted → (i : ℕ) (row : List ℕ) → length row ≡ h .reclen → P (generate i row) (settled h t s (rowWork h t (literals d) s i row) out)
     pub last : checked d ≡ Accepted → eqb (s .phase) started ≡ false → P terminate (settled h t s (lastWork h t (literals d) s) out)
 
   module _ (P : Call → Result → Type 0) (B : Branches P) where
@@ -71,7 +72,7 @@ module _ (d : List ℕ) (s : Report) (out : List ℕ) where
         (λ g. by-test (eqb (length row) (h .reclen))
         (λ l. by-test (ltb (firstMalformed h t row) (h .fields))
         (λ f. rw (k, n, g, l, f) (B .no (generate i row) (verdict.Field (firstMalformed h t row)) (omega arith) (omega arith)))
-        (λ f. rw (k, n, g, l, f) (B .row a i row)))
+        (λ f. rw (k, n, g, l, f) (B .row a i row (eqb-true (length row) (h .reclen) l))))
         (λ l. rw (k, n, g, l) (B .no (generate i row) verdict.Length (omega arith) (omega arith))))
         (λ g. rw (k, n, g) (B .no (generate i row) verdict.Detail (omega arith) (omega arith)))))
         (λ k. rw k (B .no (generate i row) verdict.State (omega arith) (omega arith))))

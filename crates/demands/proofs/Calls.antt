@@ -2,7 +2,7 @@
 -- Assumes nothing.
 use Prim.Native.Nat.{ℕ, _≤_}
 use mathlib.Core.Path.{_≡_, refl, sym, ap, _∙_}
-use mathlib.Core.Bool.{true, false, false≢true}
+use mathlib.Core.Bool.{false, false≢true}
 use mathlib.Core.List.{List, [], _∷_}
 use mathlib.Core.Logic.{_⊎_, inl, inr, ⊎-elim}
 use native.Mathlib.Nat.{zero-add}
@@ -34,7 +34,7 @@ use Rattle.report.specs.Calls.{firstWork, laterWork, rowWork, lastWork}
 use Rattle.book.specs.Book.{Call, generate, terminate}
 use Rattle.book.specs.Demand.{Use, answer, reads, taken, run, printed}
 use Rattle.demands.specs.Calls.{Refuses, work, Works, Demand1}
-use Rattle.demands.proofs.Branches.{Branches, each-call}
+use Rattle.demands.proofs.Branches.{each-call}
 
 module _ (d : List ℕ) (s : Report) (out : List ℕ) where
   abbrev h : Head
@@ -82,9 +82,9 @@ module _ (d : List ℕ) (s : Report) (out : List ℕ) where
         (λ q. rw (o, p, q) (done (ltb-false (length out) (byteCount h t (w .laid .dues)) q) _))))
         (λ o. rw o (refused c verdict.Sum (omega arith) (omega arith)))
 
-  row-works : checked d ≡ Accepted → (i : ℕ) (row : List ℕ) → Whole (generate i row) (settled h t s (rowWork h t (literals d) s i row) out)
+  row-works : checked d ≡ Accepted → (i : ℕ) (row : List ℕ) → length row ≡ h .reclen → Whole (generate i row) (settled h t s (rowWork h t (literals d) s i row) out)
   unfolding firstWork laterWork
-  row-works a i row =
+  row-works a i row l =
       let w = rowWork h t (literals d) s i row in
       let items = accepted d a .itemsIn in
       by-test (eqb (s .phase) started)

@@ -7,6 +7,7 @@ use lib.ListN.{length, getD, take, drop}
 use Rattle.tables.specs.Head.{headOf}
 use Rattle.tables.specs.Table.{table}
 use Rattle.pages.specs.Bytes.{dueBytes, byteCount}
+use Rattle.pagination.specs.All.{All}
 use Rattle.report.specs.State.{freshAt}
 use Rattle.report.specs.Result.{Result}
 use Rattle.state_bytes.specs.Bytes.{bytesOf, stateOf}
@@ -76,7 +77,9 @@ module _ (d : List ℕ) where
   pub record Demand3Bytes (us : List Use) : Type 0 where
     -- call by call the same numbers, the same output, and the same state, as bytes
     pub same : runBytes freshBytes us ≡ map written (run d (freshAt 0) us)
-    -- so the same bytes are printed
+    -- every state that is handed on has its 530 bytes
+    pub long : All (λ l. length (l .state) ≡ 530) (runBytes freshBytes us)
+    -- the same bytes are printed
     pub prints : printedBytes (runBytes freshBytes us) ≡ printed d (run d (freshAt 0) us)
     -- of which demand 3 says what they are
     pub demand3 : Demand3 d (run d (freshAt 0) us)

@@ -1,6 +1,5 @@
 -- "A whole run": its description, its calls and its sheet. examples/whole_run has the same as files.
 use Prim.Native.Nat.{ℕ}
-use Prim.Native.String.{String}
 use mathlib.Core.List.{List, [], _∷_, _++_}
 use Rattle.book.specs.Book.{initiate, generate, terminate}
 use Rattle.book.specs.Demand.{Use}

@@ -38,7 +38,6 @@
 --       line relative 1
 --         literal 1 "END"
 use Prim.Native.Nat.{ℕ}
-use Prim.Native.String.{String}
 use mathlib.Core.List.{List, [], _∷_, _++_}
 use Rattle.book.specs.Book.{initiate, generate, terminate}
 use Rattle.book.specs.Demand.{Use}

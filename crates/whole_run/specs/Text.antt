@@ -1,6 +1,6 @@
 -- Text and numbers as bytes, to write descriptions, records and sheets.
 use Prim.Native.Nat.{ℕ, _/_, _%_}
-use Prim.Native.Char.{Char, code}
+use Prim.Native.Char.{code}
 use Prim.Native.String.{String}
 use Prim.Native.String as string
 use mathlib.Core.List.{List, [], _∷_, _++_}
