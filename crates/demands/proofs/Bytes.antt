@@ -2,39 +2,33 @@
 -- Assumes nothing.
 use Prim.Native.Nat.{ℕ, _≤_}
 use mathlib.Core.Path.{_≡_, refl, sym, ap, ap₂, _∙_}
-use mathlib.Core.Bool.{Bool, true, false}
+use mathlib.Core.Bool.{true, false}
 use mathlib.Core.List.{List, [], _∷_, _++_, map}
 use mathlib.Core.Logic.{_⊎_, inl, inr, ⊎-elim}
 use native.Mathlib.Omega.{arith}
-use borrow.Author.Tests.{eqb-true}
+use borrow.Author.Tests.{ne-eqb}
 use lib.Dec.{eqb}
-use lib.ListN.{length, replicate, take, length-set, length-replicate}
-use Rattle.counts.proofs.Laws.{by-test, by-cond}
+use lib.ListN.{length, replicate, take, length-replicate}
+use Rattle.counts.proofs.Laws.{by-test}
 use Rattle.tables.specs.declared.Head.{Head}
 use Rattle.tables.specs.Head.{headOf}
-use Rattle.tables.specs.Table.{table, literals, lineCount}
-use Rattle.lookup.specs.Find.{theDetail, details}
+use Rattle.tables.specs.Table.{table, literals}
 use Rattle.description.specs.declared.Checked.the-variants.{Accepted}
 use Rattle.description.specs.Check.{checked}
 use Rattle.accepted.specs.Accepted as facts
 use Rattle.accepted.proofs.Accept.{accepted}
 use Rattle.sums.specs.Sums.{sumsOk}
 use Rattle.pagination.specs.All.{All}
-use Rattle.pages.specs.Outcome.{pastLast, tooShort, outcome}
-use Rattle.state.specs.Rules.{started}
-use Rattle.state.specs.Kept.{flagsSet}
 use Rattle.state.proofs.States.{by-phase}
-use Rattle.state.proofs.Kept.{length-padded}
 use Rattle.report.specs.declared.Report.{Report}
 use Rattle.report.specs.Verdict.{number}
 use Rattle.report.specs.State.{freshAt}
-use Rattle.report.specs.Result.{Result, Work, settled}
-use Rattle.report.specs.Calls.{cleared, breaks, firstWork, laterWork, rowWork, lastWork}
+use Rattle.report.specs.Result.{Result}
 use Rattle.state_bytes.specs.Bytes.{bytesOf, stateOf}
 use Rattle.state_bytes.proofs.Laws.{length-bytes}
 use Rattle.state_bytes.proofs.Again.{state-again, in-bytes}
 use Rattle.report_c.specs.Leaves.{stored, Leaves}
-use Rattle.book.specs.Book.{Call, Book, freshBook, enter}
+use Rattle.book.specs.Book.{Book, freshBook, enter}
 use Rattle.book.specs.Demand.{Use, answer, taken, Done, did, run, printed}
 use Rattle.book.proofs.Laws.{Laws}
 use Rattle.book.proofs.Supply.{laws}
@@ -42,15 +36,12 @@ use Rattle.book.proofs.Calls.{Tracks, call-ok, fresh-tracks}
 use Rattle.book.proofs.Theorem.{demand3}
 use Rattle.demands.specs.Calls.{Refuses, Works}
 use Rattle.demands.specs.Bytes.{Left, printedBytes, leaving, leaves, runBytes, RefusesBytes, WorksBytes, Demand1Bytes, written, Demand3Bytes}
-use Rattle.demands.proofs.Branches.{each-call}
 use Rattle.demands.proofs.Calls.{whole, refusal}
+use Rattle.demands.proofs.Sizes.{Sized, fresh-sized, sized}
 
--- a call accepted has number 0, so one with a number above 0 was not
+-- a call with a number above 0 was not accepted
 not-accepted : (n : ℕ) → 1 ≤ n → eqb n 0 ≡ false
-not-accepted n l = by-test (eqb n 0) (λ e. absurd (omega (arith, eqb-true n 0 e))) (λ e. e)
-
-is-accepted : (n : ℕ) → n ≡ 0 → eqb n 0 ≡ true
-is-accepted n e = rw e refl
+not-accepted n l = ne-eqb n 0 (λ e. omega arith)
 
 module _ (d : List ℕ) where
   -- what the promise of an exported call says it leaves
@@ -77,57 +68,6 @@ module _ (d : List ℕ) where
       whole = whole-bytes;
       once = λ l next. ap (λ (b : List ℕ). leaves d b next) (kept-bytes (refusal d (stateOf old) (u .out) (u .call) (not-accepted (number (r .answer .verdict)) l)));
     }
-
-  -- ---- eight flags and a kept record of 256 bytes stay so
-  record Sized (s : Report) : Type 0 where
-    flags : length (s .flags) ≡ 8
-    kept : length (s .kept) ≡ 256
-
-  fresh-sized : (phase : ℕ) → Sized (freshAt phase)
-  fresh-sized phase = record { flags = length-replicate 8 false; kept = length-replicate {A = ℕ} 256 0 }
-
-  module _ (s : Report) (out : List ℕ) (z : Sized s) where
-    settled-sized : (h : Head) (t : List ℕ) (w : Work) → length (w .flags) ≡ 8 → length (w .kept) ≡ 256 → Sized (settled h t s w out .answer .report)
-    unfolding settled outcome
-    settled-sized h t w f k =
-        by-test (w .ok)
-        (λ o. by-test (pastLast (w .laid)) (λ p. rw (o, p) z)
-        (λ p. by-test (tooShort h t (length out) (w .laid)) (λ q. rw (o, p, q) z) (λ q. rw (o, p, q) (record { flags = f; kept = k }))))
-        (λ o. rw o z)
-
-    module _ (h : Head) (t lits : List ℕ) (i : ℕ) (row : List ℕ) where
-      cleared-long : (flags : List Bool) → length flags ≡ 8 → length (cleared h t i flags) ≡ 8
-      cleared-long flags g = by-cond (λ (l : List Bool). length l ≡ 8) (eqb (lineCount h t (theDetail h t i)) 0) (λ e. g) (λ e. length-set flags i false ∙ g)
-
-      set-long : length (flagsSet (details h t)) ≡ 8
-      unfolding flagsSet
-      set-long = refl
-
-      row-flags : length (rowWork h t lits s i row .flags) ≡ 8
-      unfolding firstWork laterWork
-      row-flags =
-          by-test (eqb (s .phase) started) (λ e. rw e (cleared-long (flagsSet (details h t)) set-long))
-          (λ e. rw e (cleared-long _ (by-cond (λ (l : List Bool). length l ≡ 8) (breaks h _) (λ b. set-long) (λ b. z .flags))))
-
-      row-kept : length row ≤ 256 → length (rowWork h t lits s i row .kept) ≡ 256
-      unfolding firstWork laterWork
-      row-kept l =
-          by-test (eqb (s .phase) started) (λ e. rw e (length-padded row l))
-          (λ e. rw e (by-cond (λ (k : List ℕ). length k ≡ 256) (breaks h _) (λ b. length-padded row l) (λ b. z .kept)))
-
-    last-sized : (h : Head) (t lits : List ℕ) → Sized (settled h t s (lastWork h t lits s) out .answer .report)
-    unfolding lastWork
-    last-sized h t lits = settled-sized h t (lastWork h t lits s) (z .flags) (z .kept)
-
-    sized : (c : Call) → Sized (answer d s c out .answer .report)
-    sized =
-        each-call d s out (λ c r. Sized (r .answer .report))
-        (record {
-          no = λ c v a b. z;
-          silent = λ c phase e. fresh-sized phase;
-          row = λ a i row l. settled-sized _ _ _ (row-flags (headOf d) (table d) (literals d) i row) (row-kept (headOf d) (table d) (literals d) i row (omega (arith, l, accepted d a .record256)));
-          last = λ a e. last-sized (headOf d) (table d) (literals d);
-        })
 
   -- ---- the run
   module _ (a : checked d ≡ Accepted) where
@@ -175,14 +115,14 @@ module _ (d : List ℕ) where
     runs [] s b T z = refl
     runs (u ∷ us) s b T z =
         let e = step s b T z u in
-        ap₂ _∷_ e (ap (λ (l : Left). runBytes d (l .state) us) e ∙ runs us (did d s u .result .answer .report) _ (next-tracked s b T u) (sized s (u .out) z (u .call)))
+        ap₂ _∷_ e (ap (λ (l : Left). runBytes d (l .state) us) e ∙ runs us (did d s u .result .answer .report) _ (next-tracked s b T u) (sized d s (u .out) z (u .call)))
 
     longs : (us : List Use) (s : Report) (b : Book) → Tracked s b → Sized s → All (λ l. length (l .state) ≡ 530) (map (written d) (run d s us))
     unfolding run
     longs [] s b T z = tt
     longs (u ∷ us) s b T z =
         let T2 = next-tracked s b T u in
-        let z2 = sized s (u .out) z (u .call) in
+        let z2 = sized d s (u .out) z (u .call) in
         (length-bytes _ (replicate 530 0) (length-replicate {A = ℕ} 530 0) (z2 .flags) (T2 .sumsLong) (z2 .kept), longs us (did d s u .result .answer .report) _ T2 z2)
 
     printed-written : (xs : List (Done d)) → printedBytes (map (written d) xs) ≡ printed d xs
