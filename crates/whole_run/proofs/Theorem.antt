@@ -2,6 +2,7 @@
 -- Assumes nothing.
 use mathlib.Core.Path.{refl}
 use Rattle.book.proofs.Theorem.{demand3}
+use Rattle.demands.proofs.Bytes.{demand3-bytes}
 use Rattle.whole_run.specs.Run as first
 use Rattle.whole_run.specs.Second as second
 use Rattle.whole_run.specs.Instance.{Instance}
@@ -9,8 +10,8 @@ use Rattle.whole_run.proofs.Opens.{opens}
 
 pub whole-run : Instance first.description first.calls first.answers first.sheet
 unfolding opens first.description first.calls first.sheet
-whole-run = record { accepts = refl; numbers = refl; prints = refl; demand3 = demand3 first.description refl first.calls }
+whole-run = record { accepts = refl; numbers = refl; prints = refl; exported = demand3-bytes first.description refl first.calls .prints; demand3 = demand3 first.description refl first.calls }
 
 pub second-run : Instance second.description second.calls second.answers second.sheet
 unfolding opens second.description second.calls second.sheet
-second-run = record { accepts = refl; numbers = refl; prints = refl; demand3 = demand3 second.description refl second.calls }
+second-run = record { accepts = refl; numbers = refl; prints = refl; exported = demand3-bytes second.description refl second.calls .prints; demand3 = demand3 second.description refl second.calls }

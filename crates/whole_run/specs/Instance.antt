@@ -7,6 +7,7 @@ use Rattle.description.specs.Check.{checked}
 use Rattle.report.specs.Verdict.{number}
 use Rattle.report.specs.State.{freshAt}
 use Rattle.book.specs.Demand.{Use, Done, run, printed, Demand3}
+use Rattle.demands.specs.Bytes.{printedBytes, runBytes, freshBytes}
 
 pub record Instance (description : List ℕ) (calls : List Use) (answers : List ℕ) (sheet : List ℕ) : Type 0 where
   -- CHECK accepts the description
@@ -15,5 +16,7 @@ pub record Instance (description : List ℕ) (calls : List Use) (answers : List 
   pub numbers : map (λ (x : Done description). number (x .result .answer .verdict)) (run description (freshAt 0) calls) ≡ answers
   -- what the accepted calls print, joined, is the sheet
   pub prints : printed description (run description (freshAt 0) calls) ≡ sheet
+  -- the exported calls, over the bytes of states, print it too
+  pub exported : printedBytes (runBytes description (freshBytes description) calls) ≡ sheet
   -- and demand 3 says the rest of it
   pub demand3 : Demand3 description (run description (freshAt 0) calls)
