@@ -57,7 +57,7 @@ module _ (d : List ℕ) where
     kept-bytes : Refuses (stateOf old) (u .out) r → leaves d old u .state ≡ old
     kept-bytes e = rw (not-accepted (number (r .answer .verdict)) (e .listed .0)) refl
 
-    whole-bytes : WorksBytes d old u (leaves d old u) ⊎ RefusesBytes d old u (leaves d old u)
+    whole-bytes : WorksBytes d old u (leaves d old u) ⊎ RefusesBytes old u (leaves d old u)
     whole-bytes =
         ⊎-elim (λ (w : Works d (stateOf old) (u .call) (u .out) r). inl (record { accepted = w .accepted; lines = w .lines; count = w .count; room = w .room; size = w .size; rest = w .rest }))
         (λ (e : Refuses (stateOf old) (u .out) r). inr (record { listed = e .listed; count = e .count; state = kept-bytes e; output = e .output }))
@@ -103,7 +103,7 @@ module _ (d : List ℕ) where
 
     step : (s : Report) (b : Book) → Tracked s b → Sized s → (u : Use) → leaves d (bytesOf s) u ≡ written d (did d s u)
     step s b T z u =
-        ap (λ (x : Report). leaving d (bytesOf s) (answer d x (u .call) (u .out))) (read-back s b T z)
+        ap (λ (x : Report). leaving (bytesOf s) (answer d x (u .call) (u .out))) (read-back s b T z)
         ∙ ap (λ (x : List ℕ). record { state = x; out = did d s u .result .out; numbers = written d (did d s u) .numbers }) (stored-next s u)
 
     -- what a call hands on

@@ -32,11 +32,21 @@ unfoldable pub printedBytes : List Left → List ℕ
 printedBytes [] = []
 printedBytes (l ∷ ls) = take (countIn l) (l .out) ++ printedBytes ls
 
-module _ (d : List ℕ) where
-  -- what a result leaves, given the state's bytes before the call: the three equations of `Leaves`, which the promises of the exported calls cite
-  abbrev pub leaving : List ℕ → Result → Left
-  leaving old r = record { state = stored old (r .answer); out = r .out; numbers = numbers (r .answer) }
+-- what a result leaves, given the state's bytes before the call: the three equations of `Leaves`, which the promises of the exported calls cite
+abbrev pub leaving : List ℕ → Result → Left
+leaving old r = record { state = stored old (r .answer); out = r .out; numbers = numbers (r .answer) }
 
+abbrev pub freshBytes : List ℕ
+freshBytes = bytesOf (freshAt 0)
+
+-- "A refusal gives the old state back and touches no byte of the output"
+pub record RefusesBytes (old : List ℕ) (u : Use) (l : Left) : Type 0 where
+  pub listed : (1 ≤ numberIn l) × (numberIn l ≤ 9)
+  pub count : countIn l ≡ 0
+  pub state : l .state ≡ old
+  pub output : l .out ≡ u .out
+
+module _ (d : List ℕ) where
   -- an exported call: the state is read from its bytes, the call answers, the next state's bytes are stored (INITIATE is lent no output)
   abbrev pub leaves : List ℕ → Use → Left
   leaves old u = leaving old (answer d (stateOf old) (u .call) (u .out))
@@ -46,13 +56,7 @@ module _ (d : List ℕ) where
   runBytes old [] = []
   runBytes old (u ∷ us) = leaves old u ∷ runBytes (leaves old u .state) us
 
-  -- ---- demand 1: "A refusal gives the old state back and touches no byte of the output"
-  pub record RefusesBytes (old : List ℕ) (u : Use) (l : Left) : Type 0 where
-    pub listed : (1 ≤ numberIn l) × (numberIn l ≤ 9)
-    pub count : countIn l ≡ 0
-    pub state : l .state ≡ old
-    pub output : l .out ≡ u .out
-
+  -- ---- demand 1
   -- "does its whole work": as `Works` has it
   pub record WorksBytes (old : List ℕ) (u : Use) (l : Left) : Type 0 where
     pub accepted : numberIn l ≡ 0
@@ -67,12 +71,10 @@ module _ (d : List ℕ) where
     -- "so a repeated call counts once": after a refusal every call leaves what it would have left without it
     pub once : 1 ≤ numberIn (leaves old u) → (next : Use) → leaves (leaves old u .state) next ≡ leaves old next
 
-  -- ---- demand 3: the run on bytes is the run over values, written
+  -- ---- demand 3
+  -- a call of the run over values, with the state that it hands on as bytes
   abbrev pub written : Done d → Left
   written x = record { state = bytesOf (x .result .answer .report); out = x .result .out; numbers = numbers (x .result .answer) }
-
-  abbrev pub freshBytes : List ℕ
-  freshBytes = bytesOf (freshAt 0)
 
   pub record Demand3Bytes (us : List Use) : Type 0 where
     -- call by call the same numbers, the same output, and the same state, as bytes

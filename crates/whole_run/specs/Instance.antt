@@ -17,6 +17,6 @@ pub record Instance (description : List ℕ) (calls : List Use) (answers : List 
   -- what the accepted calls print, joined, is the sheet
   pub prints : printed description (run description (freshAt 0) calls) ≡ sheet
   -- the exported calls, over the bytes of states, print it too
-  pub exported : printedBytes (runBytes description (freshBytes description) calls) ≡ sheet
+  pub exported : printedBytes (runBytes description freshBytes calls) ≡ sheet
   -- and demand 3 says the rest of it
   pub demand3 : Demand3 description (run description (freshAt 0) calls)
