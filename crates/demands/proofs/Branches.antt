@@ -29,7 +29,7 @@ use Rattle.report.specs.Calls.{rowWork, lastWork, startTried, rowTried, endTrie
 use Rattle.report.specs.Calls as calls
 use Rattle.book.specs.Book.{Call, initiate, generate, terminate}
 use Rattle.book.specs.Demand.{answer}
-use Rattle.demands.specs.Calls.{work}
+use Rattle.demands.specs.Calls.{work, next}
 
 by-check : (F : Checked → Type 0) (k : Checked) → (k ≡ Accepted → F Accepted) → ((n : ℕ) → F (Broken n)) → F k
 by-check F Accepted a b = a refl
@@ -45,7 +45,7 @@ module _ (d : List ℕ) (s : Report) (out : List ℕ) where
   -- what is to be shown of each branch
   pub record Branches (P : Call → Result → Type 0) : Type 0 where
     pub no : (c : Call) (v : Verdict) → 1 ≤ number v → number v ≤ 9 → P c (refuse s out v)
-    pub silent : (c : Call) (phase : ℕ) → work d s c ≡ [] → P c (record { answer = record { verdict = verdict.Accepted; count = 0; report = freshAt phase }; out = out })
+    pub silent : (c : Call) (phase : ℕ) → work d s c ≡ [] → next d s c ≡ freshAt phase → P c (record { answer = record { verdict = verdict.Accepted; count = 0; report = freshAt phase }; out = out })
     pub row : checked d ≡ Accepted → (i : ℕ) (row : List ℕ) → length row ≡ h .reclen → P (generate i row) (settled h t s (rowWork h t (literals d) s i row) out)
     pub last : checked d ≡ Accepted → eqb (s .phase) started ≡ false → P terminate (settled h t s (lastWork h t (literals d) s) out)
 
@@ -56,7 +56,7 @@ module _ (d : List ℕ) (s : Report) (out : List ℕ) where
         by-check (λ k. P initiate (ifAccepted k s out (initiatedOn h t s out))) (checked d)
         (λ a. by-test (keeps h t s)
         (λ k. by-test (eqb (s .phase) idle)
-        (λ e. rw (k, e) (B .silent initiate _ refl))
+        (λ e. rw (k, e) (B .silent initiate started refl refl))
         (λ e. rw (k, e) (B .no initiate verdict.Phase (omega arith) (omega arith))))
         (λ k. rw k (B .no initiate verdict.State (omega arith) (omega arith))))
         (λ n. B .no initiate (verdict.Description n) (omega arith) (omega arith))
@@ -86,7 +86,7 @@ module _ (d : List ℕ) (s : Report) (out : List ℕ) where
         (λ k. by-test (eqb (s .phase) idle)
         (λ n. rw (k, n) (B .no terminate verdict.Phase (omega arith) (omega arith)))
         (λ n. by-test (eqb (s .phase) started)
-        (λ e. rw (k, n, e) (B .silent terminate _ (rw e refl)))
+        (λ e. rw (k, n, e) (B .silent terminate idle (rw e refl) (rw e refl)))
         (λ e. rw (k, n, e) (B .last a e))))
         (λ k. rw k (B .no terminate verdict.State (omega arith) (omega arith))))
         (λ n. B .no terminate (verdict.Description n) (omega arith) (omega arith))

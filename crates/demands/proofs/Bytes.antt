@@ -6,7 +6,7 @@ use mathlib.Core.Bool.{true, false}
 use mathlib.Core.List.{List, [], _∷_, _++_, map}
 use mathlib.Core.Logic.{_⊎_, inl, inr, ⊎-elim}
 use native.Mathlib.Omega.{arith}
-use borrow.Author.Tests.{ne-eqb}
+use borrow.Author.Tests.{eq-eqb, ne-eqb}
 use lib.Dec.{eqb}
 use lib.ListN.{length, replicate, take, length-replicate}
 use Rattle.counts.proofs.Laws.{by-test}
@@ -34,7 +34,7 @@ use Rattle.book.proofs.Laws.{Laws}
 use Rattle.book.proofs.Supply.{laws}
 use Rattle.book.proofs.Calls.{Tracks, call-ok, fresh-tracks}
 use Rattle.book.proofs.Theorem.{demand3}
-use Rattle.demands.specs.Calls.{Refuses, Works}
+use Rattle.demands.specs.Calls.{Refuses, next, Works}
 use Rattle.demands.specs.Bytes.{Left, printedBytes, leaving, leaves, runBytes, RefusesBytes, WorksBytes, Demand1Bytes, written, Demand3Bytes}
 use Rattle.demands.proofs.Calls.{whole, refusal}
 use Rattle.demands.proofs.Sizes.{Sized, fresh-sized, sized}
@@ -57,16 +57,19 @@ module _ (d : List ℕ) where
     kept-bytes : Refuses (stateOf old) (u .out) r → leaves d old u .state ≡ old
     kept-bytes e = rw (not-accepted (number (r .answer .verdict)) (e .listed .0)) refl
 
+    next-bytes : Works d (stateOf old) (u .call) (u .out) r → leaves d old u .state ≡ bytesOf (next d (stateOf old) (u .call))
+    next-bytes w = rw (eq-eqb (number (r .answer .verdict)) 0 (w .accepted)) (ap bytesOf (w .state))
+
     whole-bytes : WorksBytes d old u (leaves d old u) ⊎ RefusesBytes old u (leaves d old u)
     whole-bytes =
-        ⊎-elim (λ (w : Works d (stateOf old) (u .call) (u .out) r). inl (record { accepted = w .accepted; lines = w .lines; count = w .count; room = w .room; size = w .size; rest = w .rest }))
+        ⊎-elim (λ (w : Works d (stateOf old) (u .call) (u .out) r). inl (record { accepted = w .accepted; state = next-bytes w; lines = w .lines; count = w .count; room = w .room; size = w .size; rest = w .rest }))
         (λ (e : Refuses (stateOf old) (u .out) r). inr (record { listed = e .listed; count = e .count; state = kept-bytes e; output = e .output }))
         (whole d (stateOf old) (u .out) (u .call))
 
     pub demand1-bytes : Demand1Bytes d old u
     demand1-bytes = record {
       whole = whole-bytes;
-      once = λ l next. ap (λ (b : List ℕ). leaves d b next) (kept-bytes (refusal d (stateOf old) (u .out) (u .call) (not-accepted (number (r .answer .verdict)) l)));
+      once = λ l v. ap (λ (b : List ℕ). leaves d b v) (kept-bytes (refusal d (stateOf old) (u .out) (u .call) (not-accepted (number (r .answer .verdict)) l)));
     }
 
   -- ---- the run

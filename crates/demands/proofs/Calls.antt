@@ -29,11 +29,12 @@ use Rattle.report.specs.declared.Report.{Report}
 use Rattle.report.specs.declared.Verdict.{Verdict}
 use Rattle.report.specs.declared.Verdict.the-variants as verdict
 use Rattle.report.specs.Verdict.{number}
-use Rattle.report.specs.Result.{Result, refuse, Work, settled}
+use Rattle.report.specs.State.{freshAt}
+use Rattle.report.specs.Result.{Result, refuse, Work, moved, settled}
 use Rattle.report.specs.Calls.{firstWork, laterWork, rowWork, lastWork}
 use Rattle.book.specs.Book.{Call, generate, terminate}
 use Rattle.book.specs.Demand.{Use, answer, reads, taken, run, printed}
-use Rattle.demands.specs.Calls.{Refuses, work, Works, Demand1}
+use Rattle.demands.specs.Calls.{Refuses, work, next, Works, Demand1}
 use Rattle.demands.proofs.Branches.{each-call}
 
 module _ (d : List ℕ) (s : Report) (out : List ℕ) where
@@ -49,21 +50,22 @@ module _ (d : List ℕ) (s : Report) (out : List ℕ) where
   refused : (c : Call) (v : Verdict) → 1 ≤ number v → number v ≤ 9 → Whole c (refuse s out v)
   refused c v a b = inr (record { listed = (a, b); state = refl; count = refl; output = refl })
 
-  silent : (c : Call) (next : Report) → work d s c ≡ [] → Whole c (record { answer = record { verdict = verdict.Accepted; count = 0; report = next }; out = out })
+  silent : (c : Call) (phase : ℕ) → work d s c ≡ [] → next d s c ≡ freshAt phase → Whole c (record { answer = record { verdict = verdict.Accepted; count = 0; report = freshAt phase }; out = out })
   unfolding dueBytes byteCount lineTotal
-  silent c next e = inl (record { accepted = refl; lines = rw e refl; count = rw e (omega arith); room = omega arith; size = refl; rest = refl })
+  silent c phase e n = inl (record { accepted = refl; state = sym n; lines = rw e refl; count = rw e (omega arith); room = omega arith; size = refl; rest = refl })
 
   -- a call that prints: 7, 8 and 9, else its lines
-  module _ (c : Call) (w : Work) (items : ItemsIn h t (w .inputs .lits)) (groups : GroupsIn h (w .laid .dues)) (r : reads d s c ≡ w .inputs) (e : work d s c ≡ w .laid .dues) where
+  module _ (c : Call) (w : Work) (items : ItemsIn h t (w .inputs .lits)) (groups : GroupsIn h (w .laid .dues)) (r : reads d s c ≡ w .inputs) (e : work d s c ≡ w .laid .dues) (n : next d s c ≡ moved w (w .laid .to)) where
     abbrev bytes : List ℕ
     bytes = dueBytes h t (w .inputs) (w .laid .dues)
 
     long : length bytes ≡ byteCount h t (w .laid .dues)
     long = length-dueBytes h t (w .inputs) items groups
 
-    done : byteCount h t (w .laid .dues) ≤ length out → (next : Report) → Whole c (record { answer = record { verdict = verdict.Accepted; count = byteCount h t (w .laid .dues); report = next }; out = splice out 0 bytes })
-    done l next = inl (record {
+    done : byteCount h t (w .laid .dues) ≤ length out → Whole c (record { answer = record { verdict = verdict.Accepted; count = byteCount h t (w .laid .dues); report = moved w (w .laid .to) }; out = splice out 0 bytes })
+    done l = inl (record {
       accepted = refl;
+      state = sym n;
       lines = rw (r, e) (printed-part h t (w .inputs) items groups out);
       count = rw e refl;
       room = l;
@@ -79,7 +81,7 @@ module _ (d : List ℕ) (s : Report) (out : List ℕ) where
         (λ p. rw (o, p) (refused c verdict.Pages (omega arith) (omega arith)))
         (λ p. by-test (tooShort h t (length out) (w .laid))
         (λ q. rw (o, p, q) (refused c verdict.Room (omega arith) (omega arith)))
-        (λ q. rw (o, p, q) (done (ltb-false (length out) (byteCount h t (w .laid .dues)) q) _))))
+        (λ q. rw (o, p, q) (done (ltb-false (length out) (byteCount h t (w .laid .dues)) q)))))
         (λ o. rw o (refused c verdict.Sum (omega arith) (omega arith)))
 
   row-works : checked d ≡ Accepted → (i : ℕ) (row : List ℕ) → length row ≡ h .reclen → Whole (generate i row) (settled h t s (rowWork h t (literals d) s i row) out)
@@ -88,15 +90,15 @@ module _ (d : List ℕ) (s : Report) (out : List ℕ) where
       let w = rowWork h t (literals d) s i row in
       let items = accepted d a .itemsIn in
       by-test (eqb (s .phase) started)
-      (λ e. settles (generate i row) w (rw e items) (rw e (in-layout h t _ _ _ _)) refl refl)
-      (λ e. settles (generate i row) w (rw e items) (rw e (in-layout h t _ _ _ _)) refl refl)
+      (λ e. settles (generate i row) w (rw e items) (rw e (in-layout h t _ _ _ _)) refl refl refl)
+      (λ e. settles (generate i row) w (rw e items) (rw e (in-layout h t _ _ _ _)) refl refl refl)
 
   last-works : checked d ≡ Accepted → eqb (s .phase) started ≡ false → Whole terminate (settled h t s (lastWork h t (literals d) s) out)
   unfolding lastWork
-  last-works a e = settles terminate (lastWork h t (literals d) s) (accepted d a .itemsIn) (in-layout h t _ _ _ _) refl (rw e refl)
+  last-works a e = settles terminate (lastWork h t (literals d) s) (accepted d a .itemsIn) (in-layout h t _ _ _ _) refl (rw e refl) (rw e refl)
 
   pub whole : (c : Call) → Whole c (answer d s c out)
-  whole = each-call d s out Whole (record { no = refused; silent = λ c phase. silent c _; row = row-works; last = last-works })
+  whole = each-call d s out Whole (record { no = refused; silent = silent; row = row-works; last = last-works })
 
   -- a call that was not accepted is a refusal
   pub refusal : (c : Call) → taken d (answer d s c out) ≡ false → Refuses s out (answer d s c out)

@@ -70,7 +70,7 @@ module _ (d : List ℕ) (s : Report) (out : List ℕ) (z : Sized s) where
       each-call d s out (λ c r. Sized (r .answer .report))
       (record {
         no = λ c v a b. z;
-        silent = λ c phase e. fresh-sized phase;
+        silent = λ c phase e n. fresh-sized phase;
         row = λ a i row l. settled-sized _ _ _ (row-flags (headOf d) (table d) (literals d) i row) (row-kept (headOf d) (table d) (literals d) i row (omega (arith, l, accepted d a .record256)));
         last = λ a e. last-sized (headOf d) (table d) (literals d);
       })

@@ -13,7 +13,7 @@ use Rattle.report.specs.Result.{Result}
 use Rattle.state_bytes.specs.Bytes.{bytesOf, stateOf}
 use Rattle.report_c.specs.Leaves.{stored, numbers}
 use Rattle.book.specs.Demand.{Use, answer, reads, Done, run, printed, Demand3}
-use Rattle.demands.specs.Calls.{work}
+use Rattle.demands.specs.Calls.{work, next}
 
 -- the bytes of the state, the output, and the three numbers of the answer: number, extra number, count
 pub record Left : Type 0 where
@@ -60,6 +60,7 @@ module _ (d : List ℕ) where
   -- "does its whole work": as `Works` has it
   pub record WorksBytes (old : List ℕ) (u : Use) (l : Left) : Type 0 where
     pub accepted : numberIn l ≡ 0
+    pub state : l .state ≡ bytesOf (next d (stateOf old) (u .call))
     pub lines : take (countIn l) (l .out) ≡ dueBytes (headOf d) (table d) (reads d (stateOf old) (u .call)) (work d (stateOf old) (u .call))
     pub count : countIn l ≡ byteCount (headOf d) (table d) (work d (stateOf old) (u .call))
     pub room : countIn l ≤ length (u .out)
@@ -69,7 +70,7 @@ module _ (d : List ℕ) where
   pub record Demand1Bytes (old : List ℕ) (u : Use) : Type 0 where
     pub whole : WorksBytes old u (leaves old u) ⊎ RefusesBytes old u (leaves old u)
     -- "so a repeated call counts once": after a refusal every call leaves what it would have left without it
-    pub once : 1 ≤ numberIn (leaves old u) → (next : Use) → leaves (leaves old u .state) next ≡ leaves old next
+    pub once : 1 ≤ numberIn (leaves old u) → (v : Use) → leaves (leaves old u .state) v ≡ leaves old v
 
   -- ---- demand 3
   -- a call of the run over values, with the state that it hands on as bytes

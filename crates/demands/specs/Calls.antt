@@ -10,10 +10,11 @@ use Rattle.tables.specs.Head.{headOf}
 use Rattle.tables.specs.Table.{table, literals}
 use Rattle.layout.specs.Layout.{Due}
 use Rattle.pages.specs.Bytes.{dueBytes, byteCount}
-use Rattle.state.specs.Rules.{started}
+use Rattle.state.specs.Rules.{idle, started}
 use Rattle.report.specs.declared.Report.{Report}
 use Rattle.report.specs.Verdict.{number}
-use Rattle.report.specs.Result.{Result}
+use Rattle.report.specs.State.{freshAt}
+use Rattle.report.specs.Result.{Result, moved}
 use Rattle.report.specs.Calls.{rowWork, lastWork}
 use Rattle.book.specs.Book.{Call, initiate, generate, terminate}
 use Rattle.book.specs.Demand.{Use, answer, reads, taken, run, printed}
@@ -33,9 +34,17 @@ module _ (d : List ℕ) where
   work s (generate i row) = rowWork (headOf d) (table d) (literals d) s i row .laid .dues
   work s terminate = cond (eqb (s .phase) started) [] (lastWork (headOf d) (table d) (literals d) s .laid .dues)
 
-  -- "does its whole work": every line of every group, "lines times W + 10" bytes of it; "output bytes from that count on stay as they were"
+  -- the state that the call's whole work leaves: "INITIATE yields started"; a row or the last groups leave the place that their layout reaches
+  abbrev pub next : Report → Call → Report
+  next s initiate = freshAt started
+  next s (generate i row) = let w = rowWork (headOf d) (table d) (literals d) s i row in moved w (w .laid .to)
+  next s terminate = cond (eqb (s .phase) started) (freshAt idle) (let w = lastWork (headOf d) (table d) (literals d) s in moved w (w .laid .to))
+
+  -- "does its whole work": the next state, every line of every group, "lines times W + 10" bytes of it; "output bytes from that count on stay as
+  -- they were"
   pub record Works (s : Report) (c : Call) (out : List ℕ) (r : Result) : Type 0 where
     pub accepted : number (r .answer .verdict) ≡ 0
+    pub state : r .answer .report ≡ next s c
     pub lines : take (r .answer .count) (r .out) ≡ dueBytes (headOf d) (table d) (reads d s c) (work s c)
     pub count : r .answer .count ≡ byteCount (headOf d) (table d) (work s c)
     pub room : r .answer .count ≤ length out
