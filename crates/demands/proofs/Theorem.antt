@@ -9,7 +9,7 @@ use Rattle.demands.proofs.Rules.{exactly}
 pub demands : Demands
 demands = record {
   first = λ d s c out. demand1 d s out c;
-  exported = promised;
+  promised = promised;
   firstBytes = demand1-bytes;
   second = exactly;
   third = demand3;
