@@ -1,68 +1,17 @@
--- The whole run of document 01 as an instance of demand 3, by computation. Every definition that the run may open is named.
+-- The whole run of document 01 and the second run as instances of demand 3, by computation.
 -- Assumes nothing.
-use mathlib.Core.Path.{_≡_, refl}
-use Rattle.counts.specs.Below as counts-Below
-use Rattle.file.specs.Kept as file-Kept
-use Rattle.file.specs.Number as file-Number
-use Rattle.file.specs.Sections as file-Sections
-use Rattle.splice.specs.Splice as splice-Splice
-use Rattle.tables.specs.Table as tables-Table
-use Rattle.lookup.specs.Find as lookup-Find
-use Rattle.lookup.specs.Shared as lookup-Shared
-use Rattle.fields.specs.Controls as fields-Controls
-use Rattle.fields.specs.Fields as fields-Fields
-use Rattle.fields.specs.Page as fields-Page
-use Rattle.groups.specs.Groups as groups-Groups
-use Rattle.lines.specs.Lines as lines-Lines
-use Rattle.fits.specs.Fits as fits-Fits
-use Rattle.fits.specs.Starts as fits-Starts
-use Rattle.items.specs.Items as items-Items
-use Rattle.items.specs.Sources as items-Sources
-use Rattle.counters.specs.Addends as counters-Addends
-use Rattle.counters.specs.Counters as counters-Counters
-use Rattle.description.specs.Check as description-Check
-use Rattle.number.specs.Value as number-Value
-use Rattle.figures.specs.Number as figures-Number
-use Rattle.printed.specs.Printed as printed-Printed
-use Rattle.rows.specs.Breaks as rows-Breaks
-use Rattle.rows.specs.Fields as rows-Fields
-use Rattle.rows.specs.Values as rows-Values
-use Rattle.sums.specs.Subtotal as sums-Subtotal
-use Rattle.sums.specs.Sums as sums-Sums
-use Rattle.footing.specs.Footing as footing-Footing
-use Rattle.footing.specs.Rolling as footing-Rolling
-use Rattle.amounts.specs.Totals as amounts-Totals
-use Rattle.compose.specs.Items as compose-Items
-use Rattle.compose.specs.Lines as compose-Lines
-use Rattle.group_text.specs.Groups as group-text-Groups
-use Rattle.place.specs.Fit as place-Fit
-use Rattle.place.specs.Place as place-Place
-use Rattle.shape.specs.Shape as shape-Shape
-use Rattle.plan.specs.Plan as plan-Plan
-use Rattle.layout.specs.Layout as layout-Layout
-use Rattle.layout.specs.Lines as layout-Lines
-use Rattle.pagination.specs.Parts as pagination-Parts
-use Rattle.pages.specs.Bytes as pages-Bytes
-use Rattle.pages.specs.Outcome as pages-Outcome
-use Rattle.state.specs.Kept as state-Kept
-use Rattle.state.specs.Rules as state-Rules
-use Rattle.report.specs.Calls as report-Calls
-use Rattle.report.specs.Result as report-Result
-use Rattle.book.specs.Book as book-Book
-use Rattle.book.specs.Demand as book-Demand
-use Rattle.description.specs.declared.Checked.the-variants.{Accepted}
-use Rattle.report.specs.State.{freshAt}
+use mathlib.Core.Path.{refl}
 use Rattle.book.proofs.Theorem.{demand3}
-use Rattle.whole_run.specs.Run.{description, calls, sheet}
+use Rattle.demands.proofs.Bytes.{demand3-bytes}
+use Rattle.whole_run.specs.Run as first
+use Rattle.whole_run.specs.Second as second
 use Rattle.whole_run.specs.Instance.{Instance}
+use Rattle.whole_run.proofs.Opens.{opens}
 
-accepts : description-Check.checked description ≡ Accepted
-unfolding description counts-Below.allBelow counts-Below.sumBelow counts-Below.firstBelow counts-Below.foldBelow counts-Below.listBelow file-Kept.kept file-Number.num file-Sections.ruleD1 splice-Splice.splice tables-Table.table tables-Table.literals lookup-Find.theGroup lookup-Find.details lookup-Find.theDetail lookup-Shared.sharedOut fields-Controls.differs fields-Controls.controlOk fields-Controls.ruleD4 fields-Fields.fieldOk fields-Fields.ruleD3 fields-Page.ruleD2 groups-Groups.numbersOk groups-Groups.alone groups-Groups.ruleD5 lines-Lines.span lines-Lines.stepOk lines-Lines.firstOk fits-Fits.bodyFits fits-Fits.headFits fits-Fits.footFits fits-Fits.fits fits-Fits.linesOk fits-Fits.ruleD6 fits-Starts.lastFrom fits-Starts.headEnd fits-Starts.footEnd items-Items.freeColumn items-Items.itemOk items-Items.lineItemsOk items-Items.groupItemsOk items-Items.ruleD7 items-Sources.ofControl items-Sources.sourceOk items-Sources.decimalsOk items-Sources.flagOk items-Sources.shownOk counters-Addends.fieldAddendOk counters-Addends.feeds counters-Addends.counterAddendOk counters-Addends.addendOk counters-Counters.footingOk counters-Counters.newAddend counters-Counters.ownAddendOk counters-Counters.addendsOk counters-Counters.counterOk counters-Counters.ruleD8 description-Check.from8 description-Check.from7 description-Check.from6 description-Check.from5 description-Check.from4 description-Check.from3 description-Check.judged description-Check.checked number-Value.allDigits number-Value.isNumber number-Value.valueFrom number-Value.numberOf figures-Number.digits figures-Number.placesIn figures-Number.places figures-Number.fraction figures-Number.plain figures-Number.signedText figures-Number.alignRight figures-Number.numberField figures-Number.alignLeft printed-Printed.printed printed-Printed.blanks rows-Breaks.controlDiffers rows-Breaks.breakLevel rows-Fields.isText rows-Fields.wellFormed rows-Fields.formed rows-Fields.firstMalformed rows-Values.sameBytes sums-Subtotal.eachAddend sums-Subtotal.addField sums-Subtotal.subtotal sums-Sums.sumsOk sums-Sums.addAt footing-Footing.eachOwn footing-Footing.footing footing-Rolling.addSame footing-Rolling.crossCounter footing-Rolling.names footing-Rolling.rollInto footing-Rolling.rollCounter amounts-Totals.footingAt amounts-Totals.footings amounts-Totals.oldIfRefused amounts-Totals.totalsFirst amounts-Totals.totalsLater amounts-Totals.totalsLast compose-Items.fieldText compose-Items.sourceText compose-Items.itemText compose-Lines.lineText compose-Lines.lineBytes group-text-Groups.joinFrom group-text-Groups.groupBytes place-Fit.fitTest place-Fit.afterChange place-Fit.fits place-Place.lands place-Place.followed shape-Shape.bodyOf shape-Shape.headLine shape-Shape.frameOf plan-Plan.footings plan-Plan.headings plan-Plan.turns plan-Plan.turnAt layout-Layout.dueOf layout-Layout.pageChange layout-Layout.pageChanges layout-Layout.placedLines layout-Layout.placed layout-Layout.placeGroup layout-Layout.placeAll layout-Layout.opening layout-Layout.closing layout-Layout.layout layout-Lines.linesFrom layout-Lines.linesOf layout-Lines.lineTotal pagination-Parts.partFrom pagination-Parts.partTo pages-Bytes.dueBytes pages-Bytes.byteCount pages-Outcome.outcome pages-Outcome.written state-Kept.paddedRow state-Kept.flagsSet state-Rules.rangesOk state-Rules.allFrom state-Rules.freshOk state-Rules.beyondOk state-Rules.keptOk state-Rules.runningOk state-Rules.stateOk report-Calls.firstWork report-Calls.laterWork report-Calls.lastWork report-Calls.startTried report-Calls.rowTried report-Calls.endTried report-Calls.generatedOn report-Calls.terminatedOn report-Calls.initiatedOn report-Calls.initiate report-Calls.generate report-Calls.terminate report-Result.settled book-Book.enter book-Book.book book-Book.duesIn book-Book.spotsIn book-Demand.run book-Demand.printed book-Demand.events book-Demand.due
-accepts = refl
+pub whole-run : Instance first.description first.calls first.answers first.sheet
+unfolding opens first.description first.calls first.sheet
+whole-run = record { accepts = refl; numbers = refl; prints = refl; exported = demand3-bytes first.description refl first.calls .prints; demand3 = demand3 first.description refl first.calls }
 
-prints : book-Demand.printed description (book-Demand.run description (freshAt 0) calls) ≡ sheet
-unfolding description calls sheet counts-Below.allBelow counts-Below.sumBelow counts-Below.firstBelow counts-Below.foldBelow counts-Below.listBelow file-Kept.kept file-Number.num file-Sections.ruleD1 splice-Splice.splice tables-Table.table tables-Table.literals lookup-Find.theGroup lookup-Find.details lookup-Find.theDetail lookup-Shared.sharedOut fields-Controls.differs fields-Controls.controlOk fields-Controls.ruleD4 fields-Fields.fieldOk fields-Fields.ruleD3 fields-Page.ruleD2 groups-Groups.numbersOk groups-Groups.alone groups-Groups.ruleD5 lines-Lines.span lines-Lines.stepOk lines-Lines.firstOk fits-Fits.bodyFits fits-Fits.headFits fits-Fits.footFits fits-Fits.fits fits-Fits.linesOk fits-Fits.ruleD6 fits-Starts.lastFrom fits-Starts.headEnd fits-Starts.footEnd items-Items.freeColumn items-Items.itemOk items-Items.lineItemsOk items-Items.groupItemsOk items-Items.ruleD7 items-Sources.ofControl items-Sources.sourceOk items-Sources.decimalsOk items-Sources.flagOk items-Sources.shownOk counters-Addends.fieldAddendOk counters-Addends.feeds counters-Addends.counterAddendOk counters-Addends.addendOk counters-Counters.footingOk counters-Counters.newAddend counters-Counters.ownAddendOk counters-Counters.addendsOk counters-Counters.counterOk counters-Counters.ruleD8 description-Check.from8 description-Check.from7 description-Check.from6 description-Check.from5 description-Check.from4 description-Check.from3 description-Check.judged description-Check.checked number-Value.allDigits number-Value.isNumber number-Value.valueFrom number-Value.numberOf figures-Number.digits figures-Number.placesIn figures-Number.places figures-Number.fraction figures-Number.plain figures-Number.signedText figures-Number.alignRight figures-Number.numberField figures-Number.alignLeft printed-Printed.printed printed-Printed.blanks rows-Breaks.controlDiffers rows-Breaks.breakLevel rows-Fields.isText rows-Fields.wellFormed rows-Fields.formed rows-Fields.firstMalformed rows-Values.sameBytes sums-Subtotal.eachAddend sums-Subtotal.addField sums-Subtotal.subtotal sums-Sums.sumsOk sums-Sums.addAt footing-Footing.eachOwn footing-Footing.footing footing-Rolling.addSame footing-Rolling.crossCounter footing-Rolling.names footing-Rolling.rollInto footing-Rolling.rollCounter amounts-Totals.footingAt amounts-Totals.footings amounts-Totals.oldIfRefused amounts-Totals.totalsFirst amounts-Totals.totalsLater amounts-Totals.totalsLast compose-Items.fieldText compose-Items.sourceText compose-Items.itemText compose-Lines.lineText compose-Lines.lineBytes group-text-Groups.joinFrom group-text-Groups.groupBytes place-Fit.fitTest place-Fit.afterChange place-Fit.fits place-Place.lands place-Place.followed shape-Shape.bodyOf shape-Shape.headLine shape-Shape.frameOf plan-Plan.footings plan-Plan.headings plan-Plan.turns plan-Plan.turnAt layout-Layout.dueOf layout-Layout.pageChange layout-Layout.pageChanges layout-Layout.placedLines layout-Layout.placed layout-Layout.placeGroup layout-Layout.placeAll layout-Layout.opening layout-Layout.closing layout-Layout.layout layout-Lines.linesFrom layout-Lines.linesOf layout-Lines.lineTotal pagination-Parts.partFrom pagination-Parts.partTo pages-Bytes.dueBytes pages-Bytes.byteCount pages-Outcome.outcome pages-Outcome.written state-Kept.paddedRow state-Kept.flagsSet state-Rules.rangesOk state-Rules.allFrom state-Rules.freshOk state-Rules.beyondOk state-Rules.keptOk state-Rules.runningOk state-Rules.stateOk report-Calls.firstWork report-Calls.laterWork report-Calls.lastWork report-Calls.startTried report-Calls.rowTried report-Calls.endTried report-Calls.generatedOn report-Calls.terminatedOn report-Calls.initiatedOn report-Calls.initiate report-Calls.generate report-Calls.terminate report-Result.settled book-Book.enter book-Book.book book-Book.duesIn book-Book.spotsIn book-Demand.run book-Demand.printed book-Demand.events book-Demand.due
-prints = refl
-
-pub whole-run : Instance
-whole-run = record { accepts = accepts; prints = prints; demand3 = demand3 description accepts calls }
+pub second-run : Instance second.description second.calls second.answers second.sheet
+unfolding opens second.description second.calls second.sheet
+second-run = record { accepts = refl; numbers = refl; prints = refl; exported = demand3-bytes second.description refl second.calls .prints; demand3 = demand3 second.description refl second.calls }

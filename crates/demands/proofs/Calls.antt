@@ -1,0 +1,112 @@
+-- Demand 1: each call does its whole work or refuses.
+-- Assumes nothing.
+use Prim.Native.Nat.{ℕ, _≤_}
+use mathlib.Core.Path.{_≡_, refl, sym, ap, _∙_}
+use mathlib.Core.Bool.{false, false≢true}
+use mathlib.Core.List.{List, [], _∷_}
+use mathlib.Core.Logic.{_⊎_, inl, inr, ⊎-elim}
+use native.Mathlib.Nat.{zero-add}
+use native.Mathlib.Omega.{arith}
+use borrow.Author.Tests.{ltb-false}
+use lib.Dec.{eqb}
+use lib.ListN.{length}
+use Rattle.counts.proofs.Laws.{by-test}
+use Rattle.splice.specs.Splice.{splice}
+use Rattle.splice.proofs.Laws.{length-splice, drop-splice}
+use Rattle.tables.specs.declared.Head.{Head}
+use Rattle.tables.specs.Head.{headOf}
+use Rattle.tables.specs.Table.{table, literals}
+use Rattle.description.specs.declared.Checked.the-variants.{Accepted}
+use Rattle.description.specs.Check.{checked}
+use Rattle.accepted.proofs.Accept.{accepted}
+use Rattle.compose.specs.Facts.{ItemsIn}
+use Rattle.layout.specs.Lines.{lineTotal}
+use Rattle.pages.specs.Bytes.{dueBytes, byteCount}
+use Rattle.pages.specs.Outcome.{pastLast, tooShort, outcome, written}
+use Rattle.pages.proofs.Bytes.{GroupsIn, in-layout, length-dueBytes, printed-part}
+use Rattle.state.specs.Rules.{started}
+use Rattle.report.specs.declared.Report.{Report}
+use Rattle.report.specs.declared.Verdict.{Verdict}
+use Rattle.report.specs.declared.Verdict.the-variants as verdict
+use Rattle.report.specs.Verdict.{number}
+use Rattle.report.specs.State.{freshAt}
+use Rattle.report.specs.Result.{Result, refuse, Work, moved, settled}
+use Rattle.report.specs.Calls.{firstWork, laterWork, rowWork, lastWork}
+use Rattle.book.specs.Book.{Call, generate, terminate}
+use Rattle.book.specs.Demand.{Use, answer, reads, taken, run, printed}
+use Rattle.demands.specs.Calls.{Refuses, work, next, Works, Demand1}
+use Rattle.demands.proofs.Branches.{each-call}
+
+module _ (d : List ℕ) (s : Report) (out : List ℕ) where
+  abbrev h : Head
+  h = headOf d
+
+  abbrev t : List ℕ
+  t = table d
+
+  abbrev Whole : Call → Result → Type 0
+  Whole c r = Works d s c out r ⊎ Refuses s out r
+
+  refused : (c : Call) (v : Verdict) → 1 ≤ number v → number v ≤ 9 → Whole c (refuse s out v)
+  refused c v a b = inr (record { listed = (a, b); state = refl; count = refl; output = refl })
+
+  silent : (c : Call) (phase : ℕ) → work d s c ≡ [] → next d s c ≡ freshAt phase → Whole c (record { answer = record { verdict = verdict.Accepted; count = 0; report = freshAt phase }; out = out })
+  unfolding dueBytes byteCount lineTotal
+  silent c phase e n = inl (record { accepted = refl; state = sym n; lines = rw e refl; count = rw e (omega arith); room = omega arith; size = refl; rest = refl })
+
+  -- a call that prints: 7, 8 and 9, else its lines
+  module _ (c : Call) (w : Work) (items : ItemsIn h t (w .inputs .lits)) (groups : GroupsIn h (w .laid .dues)) (r : reads d s c ≡ w .inputs) (e : work d s c ≡ w .laid .dues) (n : next d s c ≡ moved w (w .laid .to)) where
+    abbrev bytes : List ℕ
+    bytes = dueBytes h t (w .inputs) (w .laid .dues)
+
+    long : length bytes ≡ byteCount h t (w .laid .dues)
+    long = length-dueBytes h t (w .inputs) items groups
+
+    done : byteCount h t (w .laid .dues) ≤ length out → Whole c (record { answer = record { verdict = verdict.Accepted; count = byteCount h t (w .laid .dues); report = moved w (w .laid .to) }; out = splice out 0 bytes })
+    done l = inl (record {
+      accepted = refl;
+      state = sym n;
+      lines = rw (r, e) (printed-part h t (w .inputs) items groups out);
+      count = rw e refl;
+      room = l;
+      size = length-splice out 0 bytes (omega (arith, long));
+      rest = rw (← long) (rw (zero-add (length bytes)) at (drop-splice out 0 bytes (omega arith)));
+    })
+
+    settles : Whole c (settled h t s w out)
+    unfolding settled outcome written
+    settles =
+        by-test (w .ok)
+        (λ o. by-test (pastLast (w .laid))
+        (λ p. rw (o, p) (refused c verdict.Pages (omega arith) (omega arith)))
+        (λ p. by-test (tooShort h t (length out) (w .laid))
+        (λ q. rw (o, p, q) (refused c verdict.Room (omega arith) (omega arith)))
+        (λ q. rw (o, p, q) (done (ltb-false (length out) (byteCount h t (w .laid .dues)) q)))))
+        (λ o. rw o (refused c verdict.Sum (omega arith) (omega arith)))
+
+  row-works : checked d ≡ Accepted → (i : ℕ) (row : List ℕ) → length row ≡ h .reclen → Whole (generate i row) (settled h t s (rowWork h t (literals d) s i row) out)
+  unfolding firstWork laterWork
+  row-works a i row l =
+      let w = rowWork h t (literals d) s i row in
+      let items = accepted d a .itemsIn in
+      by-test (eqb (s .phase) started)
+      (λ e. settles (generate i row) w (rw e items) (rw e (in-layout h t _ _ _ _)) refl refl refl)
+      (λ e. settles (generate i row) w (rw e items) (rw e (in-layout h t _ _ _ _)) refl refl refl)
+
+  last-works : checked d ≡ Accepted → eqb (s .phase) started ≡ false → Whole terminate (settled h t s (lastWork h t (literals d) s) out)
+  unfolding lastWork
+  last-works a e = settles terminate (lastWork h t (literals d) s) (accepted d a .itemsIn) (in-layout h t _ _ _ _) refl (rw e refl) (rw e refl)
+
+  pub whole : (c : Call) → Whole c (answer d s c out)
+  whole = each-call d s out Whole (record { no = refused; silent = silent; row = row-works; last = last-works })
+
+  -- a call that was not accepted is a refusal
+  pub refusal : (c : Call) → taken d (answer d s c out) ≡ false → Refuses s out (answer d s c out)
+  refusal c e = ⊎-elim (λ (w : Works d s c out (answer d s c out)). absurd (false≢true (sym e ∙ ap (λ (n : ℕ). eqb n 0) (w .accepted)))) (λ (r : Refuses s out (answer d s c out)). r) (whole c)
+
+  sheet-once : (c : Call) → taken d (answer d s c out) ≡ false → (us : List Use) → printed d (run d s (record { call = c; out = out } ∷ us)) ≡ printed d (run d s us)
+  unfolding run printed
+  sheet-once c e us = let r = refusal c e in rw (r .count, r .state) refl
+
+  pub demand1 : (c : Call) → Demand1 d s c out
+  demand1 c = record { whole = whole c; once = λ e new. ap (λ (x : Report). answer d x c new) (refusal c e .state); sheet = sheet-once c }
