@@ -14,10 +14,10 @@ use Rattle.counts.proofs.Laws.{by-cond, and-l, and-r, sum-part, first-at}
 use Rattle.tables.specs.declared.Head.{Head}
 use Rattle.tables.specs.Table.{typeOf, levelOf, lineCount}
 use Rattle.lookup.specs.Find.{isAt, theGroup}
-use Rattle.lines.specs.Lines.{span, later, step}
+use Rattle.lines.specs.Lines.{span, later, step, lineNumber}
 use Rattle.fits.specs.Starts.{present}
 use Rattle.layout.specs.Layout.{Due, dueOf}
-use Rattle.layout.specs.Lines.{lineAt, linesOf}
+use Rattle.layout.specs.Lines.{linesOf}
 use Rattle.layout.proofs.Numbers.{line-first, line-next}
 use Rattle.pagination.specs.All.{All}
 use Rattle.pagination.specs.Rising.{Climb, rank, spotsAt, spotsOf}
@@ -50,11 +50,11 @@ module _ (h : Head) (t : List ℕ) (r : ℕ) where
     has-lines g p = ltb-true _ _ (and-r (ltb g (h .groups)) (ltb 0 (lineCount h t g)) p)
 
     -- line k of a group lies between its first line and its last
-    line-le : (g at k : ℕ) → k < lineCount h t g → lineAt h t g at k ≤ at + span h t g
+    line-le : (g at k : ℕ) → k < lineCount h t g → lineNumber h t g at k ≤ at + span h t g
     unfolding span
     line-le g at k l = let z = sum-mono (step h t g) k (later h t g) (omega arith) in omega arith
 
-    line-up : (g at k : ℕ) → present h t g ≡ true → k + 1 < lineCount h t g → lineAt h t g at k < lineAt h t g at (k + 1)
+    line-up : (g at k : ℕ) → present h t g ≡ true → k + 1 < lineCount h t g → lineNumber h t g at k < lineNumber h t g at (k + 1)
     line-up g at k p l =
         let z = fits .steps g k p (omega arith) in
         let e = line-next h t g at k in
