@@ -181,7 +181,7 @@ module _ (h : Head) (t : List ℕ) (r : ℕ) (fits : PageFits h t) where
 
   -- ---- the calls
   -- TERMINATE's plan has no detail
-  no-detail : DetailOk (h .groups)
+  pub no-detail : DetailOk (h .groups)
   no-detail p = let z : h .groups < h .groups = ltb-true _ _ (and-l (ltb (h .groups) (h .groups)) (ltb 0 (lineCount h t (h .groups))) p) in absurd (omega arith)
 
   body : (p : Plan) (s : Pos) → DetailOk (p .detail) → Running (frameOf h t) (s .spot) → Placed h t r s (after (placeAll h t (turns h t p) s) (nothing (placeAll h t (turns h t p) s .to)))

@@ -32,18 +32,17 @@ sum-mono f i n l = ⊎-elim (λ (e : i ≡ n). rw e (omega arith)) (λ (m : i < 
 
 module _ (h : Head) (t : List ℕ) (r : ℕ) where
   pub sound-none : (lo hi : ℕ) → lo ≤ hi → Sound h t r lo hi []
-  sound-none lo hi l = record { climb = l; parts = tt; turns = tt; groups = tt }
+  sound-none lo hi l = record { climb = l; parts = tt; groups = tt }
 
   pub sound-append : (a b c : ℕ) (xs ys : List Due) → Sound h t r a b xs → Sound h t r b c ys → Sound h t r a c (xs ++ ys)
   sound-append a b c xs ys p q = record {
     climb = rw (spots-append h t r xs ys) (climb-append (spotsOf h t r xs) (spotsOf h t r ys) a b c (p .climb) (q .climb));
     parts = all-append (InPart h t) xs ys (p .parts) (q .parts);
-    turns = all-append (λ u. u .turned ≤ 2) xs ys (p .turns) (q .turns);
     groups = all-append (λ u. u .group < h .groups) xs ys (p .groups) (q .groups);
   }
 
   pub sound-wider : (a b c : ℕ) (xs : List Due) → b ≤ c → Sound h t r a b xs → Sound h t r a c xs
-  sound-wider a b c xs l p = record { climb = climb-wider (spotsOf h t r xs) a b c (p .climb) l; parts = p .parts; turns = p .turns; groups = p .groups }
+  sound-wider a b c xs l p = record { climb = climb-wider (spotsOf h t r xs) a b c (p .climb) l; parts = p .parts; groups = p .groups }
 
   module _ (fits : PageFits h t) where
     has-lines : (g : ℕ) → present h t g ≡ true → 0 < lineCount h t g
@@ -61,17 +60,16 @@ module _ (h : Head) (t : List ℕ) (r : ℕ) where
         omega arith
 
     -- a group that is due at a line
-    due-sound : (u : Due) (lo hi a b : ℕ) → present h t (u .group) ≡ true → u .turned ≤ 2 → a ≤ u .at → u .at + span h t (u .group) ≤ b →
+    due-sound : (u : Due) (lo hi a b : ℕ) → present h t (u .group) ≡ true → a ≤ u .at → u .at + span h t (u .group) ≤ b →
         lo < rank r (u .page) a → rank r (u .page) b ≤ hi → partFrom h t (u .group) ≤ a → b ≤ partTo h t (u .group) → Sound h t r lo hi (u ∷ [])
     unfolding linesOf
-    due-sound u lo hi a b p n l m c d e f =
+    due-sound u lo hi a b p l m c d e f =
         let g = u .group in
         let z = line-first h t g (u .at) in
         let s = lines-climb h t g (u .at) r (u .page) (lineCount h t g) 0 lo hi (omega arith) (λ x. omega arith) (λ k y x. line-up g (u .at) k p (omega arith)) (λ k y x. let w = line-le g (u .at) k (omega arith) in omega arith) in
         record {
           climb = climb-append (spotsAt r (u .page) (linesOf h t u)) [] lo hi hi s (omega arith);
           parts = (lines-all h t g (u .at) (λ x. (partFrom h t g ≤ x) × (x ≤ partTo h t g)) (lineCount h t g) 0 (λ k y x. let w = line-le g (u .at) k (omega arith) in (omega arith, omega arith)), tt);
-          turns = (n, tt);
           groups = (ltb-true _ _ (and-l (ltb g (h .groups)) (ltb 0 (lineCount h t g)) p), tt);
         }
 
@@ -81,14 +79,14 @@ module _ (h : Head) (t : List ℕ) (r : ℕ) where
     unfolding dueOf
     heading-sound g page at kept lo hi a b w c l d e =
         by-cond (Sound h t r lo hi) (present h t g)
-        (λ p. due-sound (record { group = g; kept = kept; page = page; at = at; turned = 0 }) lo hi a b p (omega arith) (w p .0) (w p .1) c d (e p .0) (e p .1))
+        (λ p. due-sound (record { group = g; kept = kept; page = page; at = at; turned = 0 }) lo hi a b p (w p .0) (w p .1) c d (e p .0) (e p .1))
         (λ p. sound-none lo hi l)
 
-    pub body-sound : (g page at changes : ℕ) (kept : Bool) (lo hi : ℕ) → present h t g ≡ true → changes ≤ 2 → lo < rank r page at → rank r page (at + span h t g) ≤ hi →
+    pub body-sound : (g page at changes : ℕ) (kept : Bool) (lo hi : ℕ) → present h t g ≡ true → lo < rank r page at → rank r page (at + span h t g) ≤ hi →
         partFrom h t g ≤ at → at + span h t g ≤ partTo h t g → Sound h t r lo hi (dueOf h t g kept page at changes)
     unfolding dueOf
-    body-sound g page at changes kept lo hi p n c d e f =
-        rw p (due-sound (record { group = g; kept = kept; page = page; at = at; turned = changes }) lo hi at (at + span h t g) p n (omega arith) (omega arith) c d e f)
+    body-sound g page at changes kept lo hi p c d e f =
+        rw p (due-sound (record { group = g; kept = kept; page = page; at = at; turned = changes }) lo hi at (at + span h t g) p (omega arith) (omega arith) c d e f)
 
 -- the group found by type and level has that type
 pub type-is : (h : Head) (t : List ℕ) (type level : ℕ) → present h t (theGroup h t type level) ≡ true → typeOf h t (theGroup h t type level) ≡ type
