@@ -31,15 +31,15 @@ use Rattle.compose.specs.Items.{Inputs}
 use Rattle.compose.specs.Facts.{ItemsIn}
 use Rattle.place.specs.Rules.{Running}
 use Rattle.shape.specs.Shape.{frameOf}
-use Rattle.plan.specs.Plan.{firstPlan, laterPlan, lastPlan}
+use Rattle.plan.specs.Plan.{turns, firstPlan, laterPlan, lastPlan}
 use Rattle.layout.specs.declared.Pos.{Pos}
-use Rattle.layout.specs.Layout.{Laid, layout, nothing}
-use Rattle.pages.specs.Bytes.{dueBytes}
+use Rattle.layout.specs.Layout.{Due, Laid, placeAll, layout, nothing}
 use Rattle.pages.specs.Outcome.{lastPage}
 use Rattle.pagination.specs.Rising.{rank}
 use Rattle.pagination.specs.Claims.{Sound, rankAt, Placed, Closed}
 use Rattle.pagination.proofs.Groups.{sound-none}
 use Rattle.pagination.proofs.Calls.{DetailOk, first-placed, later-placed, last-placed, detail-is}
+use Rattle.pagination.proofs.Turns.{Walk, Turned, first-turned, later-turned, last-turned}
 use Rattle.state.specs.Rules.{idle, started, running}
 use Rattle.state.specs.Kept.{paddedRow, flagsSet}
 use Rattle.report.specs.declared.Report.{Report}
@@ -51,9 +51,11 @@ use Rattle.report.specs.Result.{Result, refuse, Work, moved, settled}
 use Rattle.report.specs.Calls.{cleared, firstWork, flagsAt, breaks, laterWork, rowWork, lastWork, startTried, rowTried, endTried, unless, begun, ended, generatedOn, terminatedOn, initiatedOn}
 use Rattle.report.specs.Calls as calls
 use Rattle.book.specs.Book.{Call, initiate, generate, terminate, Book, freshPos, freshBook, dueFor, turned, Entry, entered, enter}
+use Rattle.book.specs.Sheet.{sheetOf}
 use Rattle.book.specs.Demand.{taken, answer, reads}
 use Rattle.book.proofs.Laws.{Laws, RunFacts, IdleFacts, FlagsEnd, good-sums}
 use Rattle.amounts.proofs.Good.{GoodSums}
+use Rattle.book.proofs.Moves.{Moves, moves-none, walk-pages, walk-moves}
 use Rattle.book.proofs.Step.{Ok, refused-ok, settled-ok}
 
 two : (n : ℕ) → n ≤ 2 → (n ≡ 0 → ⊥) → (n ≡ 1 → ⊥) → n ≡ 2
@@ -95,16 +97,18 @@ module _ (d : List ℕ) (accepts : checked d ≡ Accepted) (A : facts.Accepted (
     idle-climb : s .phase ≡ 0 → rankAt (b .report) (b .pos) ≤ rank (suc (b .report)) 1 0
     idle-climb e = let f = L .idle-facts s e (T .kept) in rw (T .place) (omega (arith, f .page2, f .line, A .pageFits .page999))
 
-    initiate-begins : s .phase ≡ 0 → Ok d Tracks b initiate (reads d s initiate) (begun out)
-    unfolding enter dueBytes
+    initiate-begins : s .phase ≡ 0 → Ok d Tracks s b initiate (reads d s initiate) (begun out)
+    unfolding enter sheetOf
     initiate-begins e = record {
       fine = inl refl;
       bytes = refl;
       sound = sound-none h t (b .report) (rankAt (b .report) (b .pos)) (rank (suc (b .report)) 1 0) (idle-climb e);
+      pages = tt;
+      moves = moves-none h t s b (freshAt 1) (record { report = suc (b .report); row = none; pos = freshPos }) (omega arith) (λ l. refl) (λ u w m q. absurd (omega arith));
       next = begun-tracks (record { report = suc (b .report); row = none; pos = freshPos }) refl refl;
     }
 
-    pub initiate-ok : Ok d Tracks b initiate (reads d s initiate) (answer d s initiate out)
+    pub initiate-ok : Ok d Tracks s b initiate (reads d s initiate) (answer d s initiate out)
     unfolding calls.initiate initiatedOn startTried
     initiate-ok =
         rw (accepts, T .kept)
@@ -139,6 +143,12 @@ module _ (d : List ℕ) (accepts : checked d ≡ Accepted) (A : facts.Accepted (
 
         placed1 : Placed h t (b .report) (placeOf s) (w1 .laid)
         placed1 = rw laid1 (first-placed h t (b .report) (A .pageFits) (firstPlan h (theDetail h t i)) (placeOf s) detail-ok (ap (λ (x : Report). x .page) fresh) (ap (λ (x : Report). x .line) fresh))
+
+        turned1 : Turned h t (placeOf s) (w1 .laid)
+        turned1 = rw laid1 (first-turned h t (b .report) (A .pageFits) (firstPlan h (theDetail h t i)) (placeOf s) detail-ok (ap (λ (x : Report). x .page) fresh))
+
+        moves1 : Moves h t s b (moved w1 (w1 .laid .to)) (turned h t b call (w1 .laid)) (w1 .laid .dues)
+        moves1 = walk-moves h t (s .page) (w1 .laid .to .page) (w1 .laid .to .page) (w1 .laid .dues) turned1 s b _ _ (λ q. absurd (omega arith)) (ap (λ (x : Pos). x .page) (T .place)) refl refl (inr refl)
 
         same1 : w1 .laid ≡ dueFor h t (b .row) call (b .pos)
         same1 = rw (T .begins e .1, T .place) laid1
@@ -183,8 +193,9 @@ module _ (d : List ℕ) (accepts : checked d ≡ Accepted) (A : facts.Accepted (
         unfolding firstWork
         items1 = A .itemsIn
 
-        pub first-ok : Ok d Tracks b call (w1 .inputs) (settled h t s w1 out)
-        first-ok = settled-ok d Tracks b call (w1 .inputs) s out T w1 same1 refl items1 (rw (T .place) (placed1 .sound)) refl refl next1
+        pub first-ok : Ok d Tracks s b call (w1 .inputs) (settled h t s w1 out)
+        first-ok = settled-ok d Tracks b call (w1 .inputs) s out T w1 same1 refl items1 (rw (T .place) (placed1 .sound)) refl refl
+            (walk-pages h t (s .page) (w1 .laid .to .page) (w1 .laid .to .page) (w1 .laid .dues) turned1 (omega (arith, ap (λ (x : Report). x .page) fresh))) moves1 next1
 
       -- a later row
       module _ (e : s .phase ≡ 2) where
@@ -206,6 +217,12 @@ module _ (d : List ℕ) (accepts : checked d ≡ Accepted) (A : facts.Accepted (
 
         placed2 : Placed h t (b .report) (placeOf s) (w2 .laid)
         placed2 = rw laid2 (later-placed h t (b .report) (A .pageFits) (laterPlan h level (theDetail h t i)) (placeOf s) detail-ok (facts2 .spot))
+
+        turned2 : Turned h t (placeOf s) (w2 .laid)
+        turned2 = rw laid2 (later-turned h t (b .report) (A .pageFits) (laterPlan h level (theDetail h t i)) (placeOf s) detail-ok)
+
+        moves2 : Moves h t s b (moved w2 (w2 .laid .to)) (turned h t b call (w2 .laid)) (w2 .laid .dues)
+        moves2 = walk-moves h t (s .page) (w2 .laid .to .page) (w2 .laid .to .page) (w2 .laid .dues) turned2 s b _ _ (λ q. absurd (omega arith)) (ap (λ (x : Pos). x .page) (T .place)) refl refl (inr refl)
 
         -- the book finds the break against its own row
         same2 : w2 .laid ≡ dueFor h t (b .row) call (b .pos)
@@ -255,20 +272,21 @@ module _ (d : List ℕ) (accepts : checked d ≡ Accepted) (A : facts.Accepted (
         unfolding laterWork
         items2 = A .itemsIn
 
-        pub later-ok : Ok d Tracks b call (w2 .inputs) (settled h t s w2 out)
-        later-ok = settled-ok d Tracks b call (w2 .inputs) s out T w2 same2 refl items2 (rw (T .place) (placed2 .sound)) refl refl next2
+        pub later-ok : Ok d Tracks s b call (w2 .inputs) (settled h t s w2 out)
+        later-ok = settled-ok d Tracks b call (w2 .inputs) s out T w2 same2 refl items2 (rw (T .place) (placed2 .sound)) refl refl
+            (walk-pages h t (s .page) (w2 .laid .to .page) (w2 .laid .to .page) (w2 .laid .dues) turned2 (facts2 .page1)) moves2 next2
 
       -- the row's work, by phase
-      row-ok : (eqb (s .phase) idle ≡ false) → Ok d Tracks b call (rowWork h t (literals d) s i row .inputs) (settled h t s (rowWork h t (literals d) s i row) out)
+      row-ok : (eqb (s .phase) idle ≡ false) → Ok d Tracks s b call (rowWork h t (literals d) s i row .inputs) (settled h t s (rowWork h t (literals d) s i row) out)
       row-ok n =
           by-test (eqb (s .phase) started)
           (λ e. rw e (first-ok (eqb-true (s .phase) 1 e)))
           (λ e. rw e (later-ok (two (s .phase) (L .phase-listed s (T .kept)) (eqb-false (s .phase) 0 n) (eqb-false (s .phase) 1 e))))
 
-    no-ok : (c : Call) (reading : Inputs) (v : Verdict) → 3 ≤ number v → number v ≤ 9 → eqb (number v) 0 ≡ false → Ok d Tracks b c reading (refuse s out v)
+    no-ok : (c : Call) (reading : Inputs) (v : Verdict) → 3 ≤ number v → number v ≤ 9 → eqb (number v) 0 ≡ false → Ok d Tracks s b c reading (refuse s out v)
     no-ok c reading v l m e = refused-ok d Tracks b c reading s out T v l m e
 
-    pub generate-ok : (i : ℕ) (row : List ℕ) → Ok d Tracks b (generate i row) (reads d s (generate i row)) (answer d s (generate i row) out)
+    pub generate-ok : (i : ℕ) (row : List ℕ) → Ok d Tracks s b (generate i row) (reads d s (generate i row)) (answer d s (generate i row) out)
     unfolding calls.generate generatedOn rowTried
     generate-ok i row =
         rw (accepts, T .kept)
@@ -283,14 +301,16 @@ module _ (d : List ℕ) (accepts : checked d ≡ Accepted) (A : facts.Accepted (
         (λ g. rw (n, g) (no-ok (generate i row) _ verdict.Detail (omega arith) (omega arith) refl))))
 
     -- ---- TERMINATE
-    started-ends : s .phase ≡ 1 → Ok d Tracks b terminate (reads d s terminate) (ended out)
-    unfolding enter dueBytes
+    started-ends : s .phase ≡ 1 → Ok d Tracks s b terminate (reads d s terminate) (ended out)
+    unfolding enter sheetOf
     started-ends e =
         let r = T .begins e in
         record {
           fine = inl refl;
           bytes = rw (r .1) refl;
           sound = rw (r .1) (sound-none h t (b .report) (rankAt (b .report) (b .pos)) (rankAt (b .report) (b .pos)) (omega arith));
+          pages = rw (r .1) tt;
+          moves = rw (r .1) (moves-none h t s (record { report = b .report; row = none; pos = b .pos }) (freshAt 0) (record { report = b .report; row = none; pos = b .pos }) (omega arith) (λ l. absurd (omega arith)) (λ u w m q. inl refl));
           next = rw (r .1) (idle-tracks (freshAt 0) _ refl fresh-idle (L .zero-sums .long) (T .place ∙ ap placeOf (r .0)));
         }
 
@@ -307,6 +327,20 @@ module _ (d : List ℕ) (accepts : checked d ≡ Accepted) (A : facts.Accepted (
 
       closed3 : Closed h t (b .report) (placeOf s) (w3 .laid)
       closed3 = rw laid3 (last-placed h t (b .report) (A .pageFits) (placeOf s) (facts3 .spot))
+
+      phase3 : w3 .phase ≡ 0
+      unfolding lastWork
+      phase3 = refl
+
+      -- the page of the last body group
+      abbrev page3 : ℕ
+      page3 = placeAll h t (turns h t (lastPlan h)) (placeOf s) .to .page
+
+      walk3 : (u w : Due) → u .page ≡ s .page → w .page ≡ s .page → Walk h t u w (w3 .laid .dues) (w3 .laid .to .page) page3
+      walk3 = rw laid3 (last-turned h t (b .report) (A .pageFits) (placeOf s))
+
+      moves3 : Moves h t s b (moved w3 (w3 .laid .to)) (turned h t b terminate (w3 .laid)) (w3 .laid .dues)
+      moves3 = walk-moves h t (s .page) (w3 .laid .to .page) page3 (w3 .laid .dues) walk3 s b _ _ (λ q. absurd (omega arith)) (ap (λ (x : Pos). x .page) (T .place)) refl refl (inl phase3)
 
       same3 : w3 .laid ≡ dueFor h t (b .row) terminate (b .pos)
       same3 = rw (T .goes e .1, T .place) laid3
@@ -328,20 +362,17 @@ module _ (d : List ℕ) (accepts : checked d ≡ Accepted) (A : facts.Accepted (
       unfolding lastWork
       long3 = last3 .long
 
-      phase3 : w3 .phase ≡ 0
-      unfolding lastWork
-      phase3 = refl
-
       items3 : ItemsIn h t (w3 .inputs .lits)
       unfolding lastWork
       items3 = A .itemsIn
 
-      pub last-ok : Ok d Tracks b terminate (w3 .inputs) (settled h t s w3 out)
+      pub last-ok : Ok d Tracks s b terminate (w3 .inputs) (settled h t s w3 out)
       last-ok =
           settled-ok d Tracks b terminate (w3 .inputs) s out T w3 same3 refl items3 (rw (T .place) (closed3 .sound)) refl refl
+          (walk-pages h t (s .page) (w3 .laid .to .page) page3 (w3 .laid .dues) walk3 (facts3 .page1)) moves3
           (λ o l. idle-tracks (moved w3 (w3 .laid .to)) _ phase3 (idle3 l) long3 refl)
 
-    pub terminate-ok : Ok d Tracks b terminate (reads d s terminate) (answer d s terminate out)
+    pub terminate-ok : Ok d Tracks s b terminate (reads d s terminate) (answer d s terminate out)
     unfolding calls.terminate terminatedOn endTried
     terminate-ok =
         rw (accepts, T .kept)
@@ -351,7 +382,7 @@ module _ (d : List ℕ) (accepts : checked d ≡ Accepted) (A : facts.Accepted (
         (λ e. rw (n, e) (started-ends (eqb-true (s .phase) 1 e)))
         (λ e. rw (n, e) (last-ok (two (s .phase) (L .phase-listed s (T .kept)) (eqb-false (s .phase) 0 n) (eqb-false (s .phase) 1 e))))))
 
-    pub call-ok : (c : Call) → Ok d Tracks b c (reads d s c) (answer d s c out)
+    pub call-ok : (c : Call) → Ok d Tracks s b c (reads d s c) (answer d s c out)
     call-ok initiate = initiate-ok
     call-ok (generate i row) = generate-ok i row
     call-ok terminate = terminate-ok

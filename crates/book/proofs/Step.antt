@@ -28,6 +28,7 @@ use Rattle.pages.specs.Outcome.{lastPage, pastLast, tooShort, outcome, written}
 use Rattle.pagination.specs.All.{All}
 use Rattle.pagination.specs.Rising.{rank, spotsOf}
 use Rattle.pagination.specs.Claims.{Sound, rankAt}
+use Rattle.pagination.proofs.Climbs.{all-map}
 use Rattle.pagination.proofs.Groups.{sound-none}
 use Rattle.report.specs.declared.Report.{Report}
 use Rattle.report.specs.declared.Verdict.{Verdict}
@@ -36,9 +37,11 @@ use Rattle.report.specs.Verdict.{number}
 use Rattle.report.specs.State.{freshAt, keeps, placeOf}
 use Rattle.report.specs.Result.{Result, refuse, Work, moved, settled}
 use Rattle.book.specs.Book.{Call, initiate, generate, terminate, Book, freshPos, freshBook, dueFor, turned, Entry, entered, enter}
+use Rattle.book.specs.Sheet.{sheetOf}
 use Rattle.book.specs.Demand.{taken}
 use Rattle.book.proofs.Laws.{Laws, RunFacts, IdleFacts}
 use Rattle.book.proofs.Bytes.{printed-part}
+use Rattle.book.proofs.Moves.{Moves, moves-none}
 
 -- the book's row and the kept record have the same control values
 module _ (d : List ℕ) where
@@ -53,21 +56,25 @@ module _ (d : List ℕ) where
   Fine n = (n ≡ 0) ⊎ (3 ≤ n) × (n ≤ 9)
 
   -- what one call must show, for the book's entry and whatever invariant is carried
-  pub record Ok (Inv : Report → Book → Type 0) (b : Book) (c : Call) (reading : Inputs) (r : Result) : Type 0 where
+  pub record Ok (Inv : Report → Book → Type 0) (s : Report) (b : Book) (c : Call) (reading : Inputs) (r : Result) : Type 0 where
     pub fine : Fine (number (r .answer .verdict))
-    pub bytes : take (r .answer .count) (r .out) ≡ dueBytes h t reading (enter h t b c (taken d r) .dues)
+    pub bytes : take (r .answer .count) (r .out) ≡ sheetOf h t reading (enter h t b c (taken d r) .dues)
     pub sound : Sound h t (enter h t b c (taken d r) .report) (rankAt (b .report) (b .pos)) (rankAt (enter h t b c (taken d r) .next .report) (enter h t b c (taken d r) .next .pos)) (enter h t b c (taken d r) .dues)
+    pub pages : All (λ u. (1 ≤ u .page) × (u .page ≤ lastPage)) (enter h t b c (taken d r) .dues)
+    pub moves : Moves h t s b (r .answer .report) (enter h t b c (taken d r) .next) (enter h t b c (taken d r) .dues)
     pub next : Inv (r .answer .report) (enter h t b c (taken d r) .next)
 
   module _ (Inv : Report → Book → Type 0) (b : Book) (c : Call) (reading : Inputs) (s : Report) (out : List ℕ) (inv : Inv s b) where
     -- a refusal changes nothing
-    pub refused-ok : (v : Verdict) → 3 ≤ number v → number v ≤ 9 → eqb (number v) 0 ≡ false → Ok Inv b c reading (refuse s out v)
-    unfolding enter dueBytes
+    pub refused-ok : (v : Verdict) → 3 ≤ number v → number v ≤ 9 → eqb (number v) 0 ≡ false → Ok Inv s b c reading (refuse s out v)
+    unfolding enter sheetOf
     refused-ok v l m e =
         record {
           fine = inr (l, m);
           bytes = rw e refl;
           sound = rw e (sound-none h t (b .report) (rankAt (b .report) (b .pos)) (rankAt (b .report) (b .pos)) (omega arith));
+          pages = rw e tt;
+          moves = rw e (moves-none h t s b s b (omega arith) (λ q. absurd (omega arith)) (λ u w m _. m));
           next = rw e inv;
         }
 
@@ -75,17 +82,23 @@ module _ (d : List ℕ) where
     module _ (w : Work) (same : w .laid ≡ dueFor h t (b .row) c (b .pos)) (read : reading ≡ w .inputs) (items : ItemsIn h t (w .inputs .lits))
         (sound : Sound h t (b .report) (rankAt (b .report) (b .pos)) (rankAt (b .report) (w .laid .to)) (w .laid .dues))
         (stays : turned h t b c (w .laid) .report ≡ b .report) (place : turned h t b c (w .laid) .pos ≡ w .laid .to)
+        (pages : All (λ u. (1 ≤ u .page) × (u .page ≤ w .laid .to .page)) (w .laid .dues))
+        (moves : Moves h t s b (moved w (w .laid .to)) (turned h t b c (w .laid)) (w .laid .dues))
         (next : w .ok ≡ true → w .laid .to .page ≤ lastPage → Inv (moved w (w .laid .to)) (turned h t b c (w .laid))) where
-      done-ok : w .ok ≡ true → w .laid .to .page ≤ lastPage → Ok Inv b c reading (record { answer = record { verdict = verdict.Accepted; count = byteCount h t (w .laid .dues); report = moved w (w .laid .to) }; out = splice out 0 (dueBytes h t (w .inputs) (w .laid .dues)) })
+      done-ok : w .ok ≡ true → w .laid .to .page ≤ lastPage → Ok Inv s b c reading (record { answer = record { verdict = verdict.Accepted; count = byteCount h t (w .laid .dues); report = moved w (w .laid .to) }; out = splice out 0 (dueBytes h t (w .inputs) (w .laid .dues)) })
       unfolding enter
       done-ok o l = record {
         fine = inl refl;
         bytes = rw (← same, read) (printed-part h t (w .inputs) items (w .laid .dues) (sound .groups) out);
         sound = rw (← same, stays, place) sound;
+        pages =
+            rw (← same)
+            (all-map (λ u. (1 ≤ u .page) × (u .page ≤ w .laid .to .page)) (λ u. (1 ≤ u .page) × (u .page ≤ lastPage)) (λ u k. (k .0, omega (arith, k .1))) (w .laid .dues) pages);
+        moves = rw (← same) moves;
         next = rw (← same) (next o l);
       }
 
-      pub settled-ok : Ok Inv b c reading (settled h t s w out)
+      pub settled-ok : Ok Inv s b c reading (settled h t s w out)
       unfolding settled outcome written
       settled-ok =
           by-test (w .ok)

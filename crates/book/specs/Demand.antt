@@ -10,10 +10,11 @@ use Rattle.tables.specs.Head.{headOf}
 use Rattle.tables.specs.Table.{table, literals}
 use Rattle.compose.specs.Items.{Inputs, inputs}
 use Rattle.layout.specs.Layout.{Due}
-use Rattle.pages.specs.Bytes.{dueBytes}
+use Rattle.pages.specs.Outcome.{lastPage}
 use Rattle.pagination.specs.All.{All}
 use Rattle.pagination.specs.Rising.{Rises}
 use Rattle.pagination.specs.Parts.{InPart}
+use Rattle.pagination.specs.Turns.{Chain, noGroup, Behind, bodies, UpToTwo}
 use Rattle.report.specs.declared.Report.{Report}
 use Rattle.report.specs.declared.Verdict.{Verdict}
 use Rattle.report.specs.Verdict.{number, accepted}
@@ -21,7 +22,8 @@ use Rattle.report.specs.State.{freshAt}
 use Rattle.report.specs.Result.{Result}
 use Rattle.report.specs.Calls.{rowWork, lastWork}
 use Rattle.report.specs.Calls as calls
-use Rattle.book.specs.Book.{Call, initiate, generate, terminate, freshBook, Entry, Event, book, duesIn, spotsIn}
+use Rattle.book.specs.Book.{Call, initiate, generate, terminate, freshBook, Entry, Event, book, duesIn, duesOf, spotsIn}
+use Rattle.book.specs.Sheet.{sheetOf}
 
 -- a call with the output lent to it
 pub record Use : Type 0 where
@@ -71,19 +73,29 @@ module _ (d : List ℕ) where
   unfoldable pub due : List (Entry (headOf d) (table d)) → List Done → List ℕ
   due [] xs = []
   due (p ∷ ps) [] = []
-  due (p ∷ ps) (x ∷ xs) = dueBytes (headOf d) (table d) (x .reading) (p .dues) ++ due ps xs
+  due (p ∷ ps) (x ∷ xs) = sheetOf (headOf d) (table d) (x .reading) (p .dues) ++ due ps xs
 
   -- "a call is refused only for reasons 3 to 9"
   abbrev pub Allowed : Done → Type 0
   Allowed x = (number (x .result .answer .verdict) ≡ 0) ⊎ (3 ≤ number (x .result .answer .verdict)) × (number (x .result .answer .verdict) ≤ 9)
 
+  -- the book of a list of calls
+  abbrev pub bookOf : List Done → List (Entry (headOf d) (table d))
+  bookOf xs = book (headOf d) (table d) freshBook (events xs)
+
   pub record Demand3 (xs : List Done) : Type 0 where
     pub refusals : All Allowed xs
-    -- "the bytes that the accepted calls printed, joined, are exactly the lines of the groups due by document 01's book"
-    pub bytes : printed xs ≡ due (book (headOf d) (table d) freshBook (events xs)) xs
+    -- "the bytes that the accepted calls printed, joined, are exactly the lines of the groups due by document 01's book": each line with its page and
+    -- with the line number that the claims below speak of
+    pub bytes : printed xs ≡ due (bookOf xs) xs
     -- "each whole on one page, inside its part of the page"
-    pub parts : All (InPart (headOf d) (table d)) (duesIn (headOf d) (table d) (book (headOf d) (table d) freshBook (events xs)))
+    pub parts : All (InPart (headOf d) (table d)) (duesIn (headOf d) (table d) (bookOf xs))
+    -- "page 1 to 999,999": six digits show it
+    pub pages : All (λ u. (1 ≤ u .page) × (u .page ≤ lastPage)) (duesIn (headOf d) (table d) (bookOf xs))
     -- "line numbers rise on each page of a report"
-    pub rising : Rises (spotsIn (headOf d) (table d) (book (headOf d) (table d) freshBook (events xs)))
-    -- "no body group turns more than two pages"
-    pub turns : All (λ u. u .turned ≤ 2) (duesIn (headOf d) (table d) (book (headOf d) (table d) freshBook (events xs)))
+    pub rising : Rises (spotsIn (headOf d) (table d) (bookOf xs))
+    -- "no body group turns more than two pages": of one report's body groups each is at most two pages behind the one before it, the first at most two
+    -- behind page 1
+    pub turns : (r : ℕ) → Chain UpToTwo (noGroup (headOf d)) (bodies (headOf d) (table d) (duesOf (headOf d) (table d) r (bookOf xs)))
+    -- "a page change for a body group makes PF, then PH, due before it": where they have lines, a page that is left ends in PF, and the next begins with PH
+    pub changes : (r : ℕ) → Chain (Behind (headOf d) (table d)) (noGroup (headOf d)) (duesOf (headOf d) (table d) r (bookOf xs))
