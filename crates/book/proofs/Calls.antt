@@ -1,21 +1,20 @@
 -- INITIATE, GENERATE and TERMINATE against the book: the state's place is the book's, and its kept record has the control values of the book's row.
 -- Assumes nothing but the laws in `Laws`, which `Demand` supplies.
-use Prim.Native.Nat.{ℕ, zero, suc, _+_, _*_, _≤_, _<_}
+use Prim.Native.Nat.{ℕ, zero, suc, _≤_, _<_}
 use mathlib.Core.Path.{_≡_, refl, sym, ap, _∙_}
-use mathlib.Core.Bool.{Bool, true, false, cond, not}
-use mathlib.Core.List.{List, [], _∷_, _++_}
-use mathlib.Core.Logic.{_⊎_, inl, inr, ⊎-elim}
-use mathlib.Core.Option.{Option, none, some}
+use mathlib.Core.Bool.{Bool, true, false}
+use mathlib.Core.List.{List}
+use mathlib.Core.Logic.{inl, inr, ⊎-elim}
+use mathlib.Core.Option.{none, some}
 use native.Mathlib.Omega.{arith}
-use borrow.Author.Tests.{ltb-true, ltb-false, eqb-true, eqb-false, lt-ltb, not-false}
+use borrow.Author.Tests.{ltb-true, ltb-false, eqb-true, eqb-false, not-false}
 use lib.Dec.{ltb, eqb}
-use lib.IntN.{ℤ, pos}
-use lib.ListN.{length, take, getD, set}
-use lib.Seq.{getD-set-same, getD-set-other}
+use lib.IntN.{pos}
+use lib.ListN.{length, getD, set}
 use Rattle.counts.proofs.Laws.{by-test, by-cond}
 use Rattle.tables.specs.declared.Head.{Head}
 use Rattle.tables.specs.Head.{headOf}
-use Rattle.tables.specs.Table.{typeOf, lineCount, table, literals}
+use Rattle.tables.specs.Table.{lineCount, table, literals}
 use Rattle.lookup.specs.Find.{theDetail, details}
 use Rattle.description.specs.declared.Checked.the-variants.{Accepted}
 use Rattle.description.specs.Check.{checked}
@@ -24,35 +23,32 @@ use Rattle.rows.specs.Fields.{formed, firstMalformed}
 use Rattle.rows.specs.Breaks.{breakLevel, SameControls}
 use Rattle.rows.proofs.Fields.{first-malformed}
 use Rattle.rows.proofs.Breaks.{break-values, break-none}
-use Rattle.sums.specs.declared.Totals.{Totals}
 use Rattle.sums.proofs.Range.{getD-set}
-use Rattle.amounts.specs.Totals.{totalsFirst, totalsLater, totalsLast}
+use Rattle.amounts.specs.Totals.{totalsLast}
 use Rattle.compose.specs.Items.{Inputs}
 use Rattle.compose.specs.Facts.{ItemsIn}
-use Rattle.place.specs.Rules.{Running}
-use Rattle.shape.specs.Shape.{frameOf}
 use Rattle.plan.specs.Plan.{turns, firstPlan, laterPlan, lastPlan}
 use Rattle.layout.specs.declared.Pos.{Pos}
-use Rattle.layout.specs.Layout.{Due, Laid, placeAll, layout, nothing}
+use Rattle.layout.specs.Layout.{Due, placeAll, layout}
 use Rattle.pages.specs.Outcome.{lastPage}
 use Rattle.pagination.specs.Rising.{rank}
-use Rattle.pagination.specs.Claims.{Sound, rankAt, Placed, Closed}
+use Rattle.pagination.specs.Claims.{rankAt, Placed, Closed}
 use Rattle.pagination.proofs.Groups.{sound-none}
 use Rattle.pagination.proofs.Calls.{DetailOk, first-placed, later-placed, last-placed, detail-is}
-use Rattle.pagination.proofs.Turns.{Walk, Turned, first-turned, later-turned, last-turned}
+use Rattle.pagination.proofs.Turns.{Walk, Paged, first-paged, later-paged, last-paged}
 use Rattle.state.specs.Rules.{idle, started, running}
-use Rattle.state.specs.Kept.{paddedRow, flagsSet}
+use Rattle.state.specs.Kept.{flagsSet}
 use Rattle.report.specs.declared.Report.{Report}
 use Rattle.report.specs.declared.Verdict.{Verdict}
 use Rattle.report.specs.declared.Verdict.the-variants as verdict
 use Rattle.report.specs.Verdict.{number}
 use Rattle.report.specs.State.{freshAt, keeps, placeOf}
-use Rattle.report.specs.Result.{Result, refuse, Work, moved, settled}
-use Rattle.report.specs.Calls.{cleared, firstWork, flagsAt, breaks, laterWork, rowWork, lastWork, startTried, rowTried, endTried, unless, begun, ended, generatedOn, terminatedOn, initiatedOn}
+use Rattle.report.specs.Result.{refuse, Work, moved, settled}
+use Rattle.report.specs.Calls.{cleared, firstWork, flagsAt, breaks, laterWork, rowWork, lastWork, startTried, rowTried, endTried, begun, ended, generatedOn, terminatedOn, initiatedOn}
 use Rattle.report.specs.Calls as calls
-use Rattle.book.specs.Book.{Call, initiate, generate, terminate, Book, freshPos, freshBook, dueFor, turned, Entry, entered, enter}
+use Rattle.book.specs.Book.{Call, initiate, generate, terminate, Book, freshPos, freshBook, dueFor, turned, enter}
 use Rattle.book.specs.Sheet.{sheetOf}
-use Rattle.book.specs.Demand.{taken, answer, reads}
+use Rattle.book.specs.Demand.{answer, reads}
 use Rattle.book.proofs.Laws.{Laws, RunFacts, IdleFacts, FlagsEnd, good-sums}
 use Rattle.amounts.proofs.Good.{GoodSums}
 use Rattle.book.proofs.Moves.{Moves, moves-none, walk-pages, walk-moves}
@@ -144,11 +140,11 @@ module _ (d : List ℕ) (accepts : checked d ≡ Accepted) (A : facts.Accepted (
         placed1 : Placed h t (b .report) (placeOf s) (w1 .laid)
         placed1 = rw laid1 (first-placed h t (b .report) (A .pageFits) (firstPlan h (theDetail h t i)) (placeOf s) detail-ok (ap (λ (x : Report). x .page) fresh) (ap (λ (x : Report). x .line) fresh))
 
-        turned1 : Turned h t (placeOf s) (w1 .laid)
-        turned1 = rw laid1 (first-turned h t (b .report) (A .pageFits) (firstPlan h (theDetail h t i)) (placeOf s) detail-ok (ap (λ (x : Report). x .page) fresh))
+        paged1 : Paged h t (placeOf s) (w1 .laid)
+        paged1 = rw laid1 (first-paged h t (b .report) (A .pageFits) (firstPlan h (theDetail h t i)) (placeOf s) detail-ok (ap (λ (x : Report). x .page) fresh))
 
         moves1 : Moves h t s b (moved w1 (w1 .laid .to)) (turned h t b call (w1 .laid)) (w1 .laid .dues)
-        moves1 = walk-moves h t (s .page) (w1 .laid .to .page) (w1 .laid .to .page) (w1 .laid .dues) turned1 s b _ _ (λ q. absurd (omega arith)) (ap (λ (x : Pos). x .page) (T .place)) refl refl (inr refl)
+        moves1 = walk-moves h t (s .page) (w1 .laid .to .page) (w1 .laid .to .page) (w1 .laid .dues) paged1 s b _ _ (λ q. absurd (omega arith)) (ap (λ (x : Pos). x .page) (T .place)) refl refl (inr refl)
 
         same1 : w1 .laid ≡ dueFor h t (b .row) call (b .pos)
         same1 = rw (T .begins e .1, T .place) laid1
@@ -195,7 +191,7 @@ module _ (d : List ℕ) (accepts : checked d ≡ Accepted) (A : facts.Accepted (
 
         pub first-ok : Ok d Tracks s b call (w1 .inputs) (settled h t s w1 out)
         first-ok = settled-ok d Tracks b call (w1 .inputs) s out T w1 same1 refl items1 (rw (T .place) (placed1 .sound)) refl refl
-            (walk-pages h t (s .page) (w1 .laid .to .page) (w1 .laid .to .page) (w1 .laid .dues) turned1 (omega (arith, ap (λ (x : Report). x .page) fresh))) moves1 next1
+            (walk-pages h t (s .page) (w1 .laid .to .page) (w1 .laid .to .page) (w1 .laid .dues) paged1 (omega (arith, ap (λ (x : Report). x .page) fresh))) moves1 next1
 
       -- a later row
       module _ (e : s .phase ≡ 2) where
@@ -218,11 +214,11 @@ module _ (d : List ℕ) (accepts : checked d ≡ Accepted) (A : facts.Accepted (
         placed2 : Placed h t (b .report) (placeOf s) (w2 .laid)
         placed2 = rw laid2 (later-placed h t (b .report) (A .pageFits) (laterPlan h level (theDetail h t i)) (placeOf s) detail-ok (facts2 .spot))
 
-        turned2 : Turned h t (placeOf s) (w2 .laid)
-        turned2 = rw laid2 (later-turned h t (b .report) (A .pageFits) (laterPlan h level (theDetail h t i)) (placeOf s) detail-ok)
+        paged2 : Paged h t (placeOf s) (w2 .laid)
+        paged2 = rw laid2 (later-paged h t (b .report) (A .pageFits) (laterPlan h level (theDetail h t i)) (placeOf s) detail-ok)
 
         moves2 : Moves h t s b (moved w2 (w2 .laid .to)) (turned h t b call (w2 .laid)) (w2 .laid .dues)
-        moves2 = walk-moves h t (s .page) (w2 .laid .to .page) (w2 .laid .to .page) (w2 .laid .dues) turned2 s b _ _ (λ q. absurd (omega arith)) (ap (λ (x : Pos). x .page) (T .place)) refl refl (inr refl)
+        moves2 = walk-moves h t (s .page) (w2 .laid .to .page) (w2 .laid .to .page) (w2 .laid .dues) paged2 s b _ _ (λ q. absurd (omega arith)) (ap (λ (x : Pos). x .page) (T .place)) refl refl (inr refl)
 
         -- the book finds the break against its own row
         same2 : w2 .laid ≡ dueFor h t (b .row) call (b .pos)
@@ -274,7 +270,7 @@ module _ (d : List ℕ) (accepts : checked d ≡ Accepted) (A : facts.Accepted (
 
         pub later-ok : Ok d Tracks s b call (w2 .inputs) (settled h t s w2 out)
         later-ok = settled-ok d Tracks b call (w2 .inputs) s out T w2 same2 refl items2 (rw (T .place) (placed2 .sound)) refl refl
-            (walk-pages h t (s .page) (w2 .laid .to .page) (w2 .laid .to .page) (w2 .laid .dues) turned2 (facts2 .page1)) moves2 next2
+            (walk-pages h t (s .page) (w2 .laid .to .page) (w2 .laid .to .page) (w2 .laid .dues) paged2 (facts2 .page1)) moves2 next2
 
       -- the row's work, by phase
       row-ok : (eqb (s .phase) idle ≡ false) → Ok d Tracks s b call (rowWork h t (literals d) s i row .inputs) (settled h t s (rowWork h t (literals d) s i row) out)
@@ -337,7 +333,7 @@ module _ (d : List ℕ) (accepts : checked d ≡ Accepted) (A : facts.Accepted (
       page3 = placeAll h t (turns h t (lastPlan h)) (placeOf s) .to .page
 
       walk3 : (u w : Due) → u .page ≡ s .page → w .page ≡ s .page → Walk h t u w (w3 .laid .dues) (w3 .laid .to .page) page3
-      walk3 = rw laid3 (last-turned h t (b .report) (A .pageFits) (placeOf s))
+      walk3 = rw laid3 (last-paged h t (b .report) (A .pageFits) (placeOf s))
 
       moves3 : Moves h t s b (moved w3 (w3 .laid .to)) (turned h t b terminate (w3 .laid)) (w3 .laid .dues)
       moves3 = walk-moves h t (s .page) (w3 .laid .to .page) page3 (w3 .laid .dues) walk3 s b _ _ (λ q. absurd (omega arith)) (ap (λ (x : Pos). x .page) (T .place)) refl refl (inl phase3)

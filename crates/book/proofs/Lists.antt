@@ -3,7 +3,7 @@
 use Prim.Native.Nat.{ℕ, _≤_, _<_}
 use mathlib.Core.Path.{_≡_, refl, sym, ap₂, _∙_}
 use mathlib.Core.Bool.{Bool, true, false, cond}
-use mathlib.Core.Logic.{_⊎_, inl, inr, ⊎-elim}
+use mathlib.Core.Logic.{inl, inr, ⊎-elim}
 use mathlib.Core.List.{List, [], _∷_, _++_}
 use native.Mathlib.Nat.{eq-or-lt-of-le}
 use native.Mathlib.Omega.{arith}
@@ -18,7 +18,7 @@ use Rattle.description.specs.Check.{checked}
 use Rattle.accepted.specs.Accepted as facts
 use Rattle.layout.specs.Layout.{Due}
 use Rattle.pagination.specs.All.{All}
-use Rattle.pagination.specs.Rising.{Climb, Rises, spotsOf}
+use Rattle.pagination.specs.Rising.{Climb, spotsOf}
 use Rattle.pagination.specs.Parts.{InPart}
 use Rattle.pagination.specs.Turns.{noGroup, Behind, bodies, UpToTwo}
 use Rattle.pagination.specs.Claims.{rankAt}
@@ -27,7 +27,7 @@ use Rattle.pagination.proofs.Turns.{lastOf, chain-append, bodies-append}
 use Rattle.pages.specs.Outcome.{lastPage}
 use Rattle.report.specs.declared.Report.{Report}
 use Rattle.report.specs.State.{freshAt}
-use Rattle.book.specs.Book.{Call, Book, freshBook, Entry, Event, enter, book, duesIn, duesOf, spotsIn}
+use Rattle.book.specs.Book.{Call, Book, freshBook, enter, book, duesIn, duesOf, spotsIn}
 use Rattle.book.specs.Demand.{Use, Done, did, run, printed, taken, events, due, Allowed, Demand3}
 use Rattle.book.proofs.Laws.{Laws}
 use Rattle.book.proofs.Moves.{Led, Follow, Moves}

@@ -7,7 +7,6 @@ use mathlib.Core.List.{List, []}
 use mathlib.Core.Logic.{_⊎_, inl, inr}
 use native.Mathlib.Omega.{arith}
 use Rattle.tables.specs.declared.Head.{Head}
-use Rattle.layout.specs.declared.Pos.{Pos}
 use Rattle.layout.specs.Layout.{Due}
 use Rattle.pagination.specs.All.{All}
 use Rattle.pagination.specs.Turns.{Chain, Behind, bodies, UpToTwo}

@@ -1,32 +1,26 @@
 -- One call against the book's entry.
 -- Assumes nothing but the laws in `Laws`, which `Demand` supplies.
-use Prim.Native.Nat.{ℕ, zero, suc, _+_, _*_, _≤_, _<_}
-use mathlib.Core.Path.{_≡_, refl, sym, ap, _∙_}
-use mathlib.Core.Bool.{Bool, true, false, cond}
-use mathlib.Core.List.{List, [], _∷_, _++_}
+use Prim.Native.Nat.{ℕ, _≤_}
+use mathlib.Core.Path.{_≡_, refl}
+use mathlib.Core.Bool.{true, false}
+use mathlib.Core.List.{List}
 use mathlib.Core.Logic.{_⊎_, inl, inr}
-use mathlib.Core.Option.{Option, none, some}
 use native.Mathlib.Omega.{arith}
-use borrow.Author.Tests.{ltb-true, ltb-false, eqb-true, eqb-false}
-use lib.Dec.{ltb, eqb}
+use borrow.Author.Tests.{ltb-false}
+use lib.Dec.{eqb}
 use lib.ListN.{length, take}
 use Rattle.counts.proofs.Laws.{by-test}
 use Rattle.splice.specs.Splice.{splice}
 use Rattle.tables.specs.declared.Head.{Head}
 use Rattle.tables.specs.Head.{headOf}
-use Rattle.tables.specs.Table.{typeOf, table, literals}
-use Rattle.lookup.specs.Find.{theDetail, details}
+use Rattle.tables.specs.Table.{table}
 use Rattle.description.specs.declared.Checked.the-variants.{Accepted}
-use Rattle.description.specs.Check.{checked}
 use Rattle.accepted.specs.Accepted as facts
 use Rattle.compose.specs.Items.{Inputs}
 use Rattle.compose.specs.Facts.{ItemsIn}
-use Rattle.layout.specs.declared.Pos.{Pos}
-use Rattle.layout.specs.Layout.{Due, Laid}
 use Rattle.pages.specs.Bytes.{dueBytes, byteCount}
 use Rattle.pages.specs.Outcome.{lastPage, pastLast, tooShort, outcome, written}
 use Rattle.pagination.specs.All.{All}
-use Rattle.pagination.specs.Rising.{rank, spotsOf}
 use Rattle.pagination.specs.Claims.{Sound, rankAt}
 use Rattle.pagination.proofs.Climbs.{all-map}
 use Rattle.pagination.proofs.Groups.{sound-none}
@@ -34,12 +28,10 @@ use Rattle.report.specs.declared.Report.{Report}
 use Rattle.report.specs.declared.Verdict.{Verdict}
 use Rattle.report.specs.declared.Verdict.the-variants as verdict
 use Rattle.report.specs.Verdict.{number}
-use Rattle.report.specs.State.{freshAt, keeps, placeOf}
 use Rattle.report.specs.Result.{Result, refuse, Work, moved, settled}
-use Rattle.book.specs.Book.{Call, initiate, generate, terminate, Book, freshPos, freshBook, dueFor, turned, Entry, entered, enter}
+use Rattle.book.specs.Book.{Call, Book, dueFor, turned, enter}
 use Rattle.book.specs.Sheet.{sheetOf}
 use Rattle.book.specs.Demand.{taken}
-use Rattle.book.proofs.Laws.{Laws, RunFacts, IdleFacts}
 use Rattle.book.proofs.Bytes.{printed-part}
 use Rattle.book.proofs.Moves.{Moves, moves-none}
 

@@ -1,5 +1,5 @@
 -- Demand 3's book: "Its book sees the description, the calls with d and record, and which were accepted, but no state and no output".
-use Prim.Native.Nat.{ℕ, zero, suc}
+use Prim.Native.Nat.{ℕ, suc}
 use mathlib.Core.List.{List, [], _∷_, _++_}
 use mathlib.Core.Bool.{Bool, true, false, cond}
 use mathlib.Core.Option.{Option, none, some}

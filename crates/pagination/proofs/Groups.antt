@@ -1,14 +1,14 @@
 -- One due group: its lines climb inside its part.
 -- Assumes nothing.
-use Prim.Native.Nat.{ℕ, zero, suc, _+_, _*_, _-_, _≤_, _<_}
-use mathlib.Core.Path.{_≡_, refl, sym, ap, _∙_}
-use mathlib.Core.Bool.{Bool, true, false, cond, _&&_}
+use Prim.Native.Nat.{ℕ, _+_, _≤_, _<_}
+use mathlib.Core.Path.{_≡_}
+use mathlib.Core.Bool.{Bool, true}
 use mathlib.Core.List.{List, [], _∷_, _++_}
 use mathlib.Core.Logic.{⊎-elim}
 use native.Mathlib.Nat.{eq-or-lt-of-le}
 use native.Mathlib.Omega.{arith}
 use borrow.Author.Tests.{ltb-true, eqb-true}
-use lib.Dec.{ltb, leb, eqb}
+use lib.Dec.{ltb, eqb}
 use Rattle.counts.specs.Below.{sumBelow, firstBelow}
 use Rattle.counts.proofs.Laws.{by-cond, and-l, and-r, sum-part, first-at}
 use Rattle.tables.specs.declared.Head.{Head}
@@ -19,10 +19,9 @@ use Rattle.fits.specs.Starts.{present}
 use Rattle.layout.specs.Layout.{Due, dueOf}
 use Rattle.layout.specs.Lines.{linesOf}
 use Rattle.layout.proofs.Numbers.{line-first, line-next}
-use Rattle.pagination.specs.All.{All}
-use Rattle.pagination.specs.Rising.{Climb, rank, spotsAt, spotsOf}
+use Rattle.pagination.specs.Rising.{rank, spotsAt, spotsOf}
 use Rattle.pagination.specs.Parts.{partFrom, partTo, InPart}
-use Rattle.pagination.specs.Facts.{Stands, PageFits}
+use Rattle.pagination.specs.Facts.{PageFits}
 use Rattle.pagination.specs.Claims.{Sound}
 use Rattle.pagination.proofs.Climbs.{all-append, climb-append, climb-wider, spots-append, lines-climb, lines-all}
 

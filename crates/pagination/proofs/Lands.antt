@@ -1,29 +1,28 @@
 -- Body groups, with their page changes, climb inside their parts, and leave a place of a running state.
 -- Assumes nothing.
-use Prim.Native.Nat.{ℕ, zero, suc, _+_, _*_, _-_, _≤_, _<_}
-use mathlib.Core.Path.{_≡_, refl, sym, ap, _∙_}
+use Prim.Native.Nat.{ℕ, zero, suc, _+_, _-_, _≤_, _<_}
+use mathlib.Core.Path.{_≡_, refl}
 use mathlib.Core.Bool.{Bool, true, false, cond}
 use mathlib.Core.List.{List, [], _∷_, _++_}
 use mathlib.Core.Logic.{⊎-elim}
 use native.Mathlib.Nat.{eq-or-lt-of-le}
 use native.Mathlib.Omega.{arith}
-use lib.Dec.{leb, eqb}
+use lib.Dec.{eqb}
 use borrow.Author.Tests.{eqb-true, eqb-false, lt-leb, le-leb}
-use Rattle.counts.proofs.Laws.{by-test, by-cond}
+use Rattle.counts.proofs.Laws.{by-test}
 use Rattle.tables.specs.declared.Head.{Head}
 use Rattle.tables.specs.Table.{typeOf}
 use Rattle.lines.specs.Lines.{span}
 use Rattle.fits.specs.Starts.{present, startFrom, aboveHead}
 use Rattle.place.specs.declared.Landing.{Landing}
-use Rattle.place.specs.declared.Next.{Next}
 use Rattle.place.specs.declared.Next.the-variants.{Stay}
 use Rattle.place.specs.Place.{landing, followed}
-use Rattle.place.specs.Rules.{Described, NextIn, Running, Inside}
+use Rattle.place.specs.Rules.{NextIn, Running}
 use Rattle.place.proofs.Within.{within, rises, line-le, followed-ge, kept-running}
-use Rattle.shape.specs.Shape.{bodyOf, nextOf, frameOf, lowOf}
+use Rattle.shape.specs.Shape.{bodyOf, nextOf, frameOf}
 use Rattle.plan.specs.declared.Turn.{Turn}
 use Rattle.layout.specs.declared.Pos.{Pos}
-use Rattle.layout.specs.Layout.{Due, Laid, dueOf, pageHeading, pageFooting, pageChange, pageChanges, nextFor, placedBy, placedLines, placed, placeGroup, after, placeAll}
+use Rattle.layout.specs.Layout.{Due, Laid, dueOf, pageHeading, pageFooting, pageChange, pageChanges, nextFor, placedLines, placed, placeGroup, after, placeAll}
 use Rattle.pagination.specs.All.{All}
 use Rattle.pagination.specs.Rising.{rank}
 use Rattle.pagination.specs.Parts.{partFrom, partTo}

@@ -2,7 +2,7 @@
 -- Assumes nothing.
 use Prim.Native.Nat.{ℕ, zero, suc, _+_, _≤_, _<_}
 use mathlib.Core.Path.{_≡_, refl, sym, ap, _∙_}
-use mathlib.Core.Bool.{Bool, true, false, cond, true≢false}
+use mathlib.Core.Bool.{Bool, true, false, true≢false}
 use mathlib.Core.List.{List, [], _∷_, _++_}
 use mathlib.Core.Logic.{_⊎_, inl, inr, ⊎-elim}
 use native.Mathlib.Omega.{arith}
@@ -18,7 +18,7 @@ use Rattle.plan.specs.declared.Turn.{Turn}
 use Rattle.plan.specs.declared.Plan.{Plan}
 use Rattle.plan.specs.Plan.{turns, lastPlan}
 use Rattle.layout.specs.declared.Pos.{Pos}
-use Rattle.layout.specs.Layout.{Due, Laid, dueOf, reportHeading, pageHeading, pageFooting, reportFooting, rhAt, phAt, pfAt, rfAt, ownPage, footingPage, pageChange, pageChanges, placedLines, placed, placeGroup, after, placeAll, nothing, opening, closing, layout}
+use Rattle.layout.specs.Layout.{Due, Laid, dueOf, reportHeading, pageHeading, pageFooting, reportFooting, rhAt, phAt, pfAt, rfAt, ownPage, pageChange, pageChanges, placedLines, placed, placeGroup, after, placeAll, nothing, opening, closing, layout}
 use Rattle.pagination.specs.All.{All}
 use Rattle.pagination.specs.Facts.{PageFits}
 use Rattle.pagination.specs.Turns.{Chain, HeadsPage, PageTurn, Behind, isBody, bodies, UpToTwo}
@@ -57,7 +57,7 @@ module _ (h : Head) (t : List ℕ) where
   unfolding lastOf
   pages-in [] u m c l = (l, tt)
   pages-in (v ∷ vs) u m c l =
-      let up : u .page ≤ v .page = ⊎-elim (λ (e : u .page ≡ v .page). omega arith) (λ (x : PageTurn h t u v). omega arith) (c .0) in
+      let up : u .page ≤ v .page = ⊎-elim (λ (e : u .page ≡ v .page). omega arith) (λ (x : PageTurn h t u v). omega (arith, x .up .0)) (c .0) in
       let y = pages-in vs v m (c .1) l in
       (omega arith, ((up, y .0), all-map (λ x. (v .page ≤ x .page) × (x .page ≤ m)) (λ x. (u .page ≤ x .page) × (x .page ≤ m)) (λ x z. (omega arith, z .1)) vs (y .1)))
 
@@ -80,15 +80,15 @@ module _ (h : Head) (t : List ℕ) where
     body = rw (bodies-append xs ys) (ap (λ (x : Due). x .page) (last-append w (bodies h t xs) (bodies h t ys)) ∙ b .body);
   }
 
-  -- a layout from a place on, in which the last group and the last body group stand on the place's page
-  abbrev pub Turned : Pos → Laid → Type 0
-  Turned s a = (u w : Due) → u .page ≡ s .page → w .page ≡ s .page → Walk u w (a .dues) (a .to .page) (a .to .page)
+  -- a layout from a place on, where the last group due and the last body group stand on the place's page, as they do behind it
+  abbrev pub Paged : Pos → Laid → Type 0
+  Paged s a = (u w : Due) → u .page ≡ s .page → w .page ≡ s .page → Walk u w (a .dues) (a .to .page) (a .to .page)
 
-  turned-none : (s : Pos) → Turned s (nothing s)
-  turned-none s u w e f = walk-none u w (s .page) (s .page) e f
+  paged-none : (s : Pos) → Paged s (nothing s)
+  paged-none s u w e f = walk-none u w (s .page) (s .page) e f
 
-  turned-after : (s : Pos) (a b : Laid) → Turned s a → Turned (a .to) b → Turned s (after a b)
-  turned-after s a b v x u w e f =
+  paged-after : (s : Pos) (a b : Laid) → Paged s a → Paged (a .to) b → Paged s (after a b)
+  paged-after s a b v x u w e f =
       let y = v u w e f in
       walk-append u w (a .dues) (b .dues) (a .to .page) (a .to .page) (b .to .page) (b .to .page) y (x (lastOf u (a .dues)) (lastOf w (bodies h t (a .dues))) (y .last) (y .body))
 
@@ -116,71 +116,75 @@ module _ (h : Head) (t : List ℕ) where
       (λ p. walk-none u w page q e f)
 
   -- ---- page changes
-  -- a group due on page p can follow u: u is on that page, or it has left the page before it and p has no PH
-  record Gone (u : Due) (p : ℕ) : Type 0 where
-    up : u .page < p
+  -- a group due on page p can follow u, j page changes on: u is on that page, or it is left behind and page p has no PH
+  record Gone (u : Due) (p j : ℕ) : Type 0 where
+    up : (u .page < p) × (p ≤ u .page + j)
     foot : present h t (pageFooting h t) ≡ true → (u .group ≡ pageFooting h t) × (p ≡ u .page + 1)
     head : present h t (pageHeading h t) ≡ false
 
-  abbrev Reach : Due → ℕ → Type 0
-  Reach u p = (u .page ≡ p) ⊎ Gone u p
+  abbrev Reach : Due → ℕ → ℕ → Type 0
+  Reach u p j = (u .page ≡ p) ⊎ Gone u p j
 
   never : {X : Type 0} (b : Bool) → b ≡ true → b ≡ false → X
   never true e f = absurd (true≢false f)
   never false e f = absurd (true≢false (sym e))
 
-  reach-behind : (u v : Due) (p : ℕ) → v .page ≡ p → Reach u p → Behind h t u v
-  reach-behind u v p e (inl f) = inl (f ∙ sym e)
-  reach-behind u v p e (inr g) = inr (record {
-    up = omega (arith, g .up);
+  reach-behind : (u v : Due) (p j : ℕ) → j ≤ 2 → v .page ≡ p → Reach u p j → Behind h t u v
+  reach-behind u v p j l e (inl f) = inl (f ∙ sym e)
+  reach-behind u v p j l e (inr g) = inr (record {
+    up = (omega (arith, g .up .0), omega (arith, g .up .1));
     footing = λ q. (g .foot q .0, e ∙ g .foot q .1);
     heading = λ q. never (present h t (pageHeading h t)) q (g .head);
   })
 
   -- what one page change, or several, make of it
-  record Changed (u : Due) (us : List Due) (p : ℕ) : Type 0 where
+  record Changed (u : Due) (us : List Due) (p j : ℕ) : Type 0 where
     behind : Chain (Behind h t) u us
-    reach : Reach (lastOf u us) p
+    reach : Reach (lastOf u us) p j
 
-  changed-append : (u : Due) (xs ys : List Due) (p q : ℕ) → Changed u xs p → Changed (lastOf u xs) ys q → Changed u (xs ++ ys) q
-  changed-append u xs ys p q a b = record { behind = chain-append (Behind h t) u xs ys (a .behind) (b .behind); reach = rw (last-append u xs ys) (b .reach) }
+  changed-append : (u : Due) (xs ys : List Due) (p q i j : ℕ) → Changed u xs p i → Changed (lastOf u xs) ys q j → Changed u (xs ++ ys) q j
+  changed-append u xs ys p q i j a b = record { behind = chain-append (Behind h t) u xs ys (a .behind) (b .behind); reach = rw (last-append u xs ys) (b .reach) }
 
   -- a page that is reached is left for the next one
-  leaves : (u : Due) (p : ℕ) → Reach u p → u .page < p + 1
-  leaves u p (inl e) = omega arith
-  leaves u p (inr g) = omega (arith, g .up)
+  leaves : (u : Due) (p j : ℕ) → Reach u p j → (u .page < p + 1) × (p + 1 ≤ u .page + (j + 1))
+  leaves u p j (inl e) = (omega arith, omega arith)
+  leaves u p j (inr g) = (omega (arith, g .up .0), omega (arith, g .up .1))
 
   -- without PF, a group that may head a page follows on the next
-  onto : (u v : Due) (p : ℕ) → v .page ≡ p + 1 → (present h t (pageFooting h t) ≡ true → ⊥) → HeadsPage h t v → Reach u p → present h t (pageHeading h t) ≡ true → PageTurn h t u v
-  onto u v p e f k (inl r) q = record { up = omega arith; footing = λ x. absurd (f x); heading = λ x. (k, omega arith) }
-  onto u v p e f k (inr g) q = never (present h t (pageHeading h t)) q (g .head)
+  onto : (u v : Due) (p j : ℕ) → v .page ≡ p + 1 → (present h t (pageFooting h t) ≡ true → ⊥) → HeadsPage h t v → Reach u p j → present h t (pageHeading h t) ≡ true → PageTurn h t u v
+  onto u v p j e f k (inl r) q = record { up = (omega arith, omega arith); footing = λ x. absurd (f x); heading = λ x. (k, omega arith) }
+  onto u v p j e f k (inr g) q = never (present h t (pageHeading h t)) q (g .head)
 
   no-foot : {X : Type 0} → present h t (pageFooting h t) ≡ false → present h t (pageFooting h t) ≡ true → X
   no-foot e f = never (present h t (pageFooting h t)) f e
 
-  change-reach : (kept : Bool) (p : ℕ) (u : Due) → Reach u p → Changed u (pageChange h t kept p) (p + 1)
+  change-reach : (kept : Bool) (p j : ℕ) (u : Due) → j ≤ 2 → Reach u p j → Changed u (pageChange h t kept p) (p + 1) (j + 1)
   unfolding pageChange dueOf lastOf
-  change-reach kept p u r =
+  change-reach kept p j u l r =
       let at = startFrom h t (h .ft) (pageFooting h t) in
       let to = startFrom h t (aboveHead h) (pageHeading h t) in
       let pf : Due = record { group = pageFooting h t; kept = kept; page = p; at = at; turned = 0 } in
       let ph : Due = record { group = pageHeading h t; kept = kept; page = p + 1; at = to; turned = 0 } in
       by-test (present h t (pageFooting h t))
       (λ f. by-test (present h t (pageHeading h t))
-      (λ e. rw (f, e) (record { behind = (reach-behind u pf p refl r, (inr (record { up = omega arith; footing = λ q. (refl, refl); heading = λ q. (inl refl, refl) }), tt)); reach = inl refl }))
-      (λ e. rw (f, e) (record { behind = (reach-behind u pf p refl r, tt); reach = inr (record { up = omega arith; foot = λ q. (refl, refl); head = e }) })))
+      (λ e. rw (f, e) (record { behind = (reach-behind u pf p j l refl r, (inr (record { up = (omega arith, omega arith); footing = λ q. (refl, refl); heading = λ q. (inl refl, refl) }), tt)); reach = inl refl }))
+      (λ e. rw (f, e) (record { behind = (reach-behind u pf p j l refl r, tt); reach = inr (record { up = (omega arith, omega arith); foot = λ q. (refl, refl); head = e }) })))
       (λ f. by-test (present h t (pageHeading h t))
-      (λ e. rw (f, e) (record { behind = (inr (onto u ph p refl (no-foot f) (inl refl) r e), tt); reach = inl refl }))
-      (λ e. rw (f, e) (record { behind = tt; reach = inr (record { up = leaves u p r; foot = no-foot f; head = e }) })))
+      (λ e. rw (f, e) (record { behind = (inr (onto u ph p j refl (no-foot f) (inl refl) r e), tt); reach = inl refl }))
+      (λ e. rw (f, e) (record { behind = tt; reach = inr (record { up = leaves u p j r; foot = no-foot f; head = e }) })))
 
-  changes-reach : (k : ℕ) (kept : Bool) (p : ℕ) (u : Due) → Reach u p → Changed u (pageChanges h t kept k p) (p + k)
+  changes-reach : (k : ℕ) (kept : Bool) (p j : ℕ) (u : Due) → j + k ≤ 2 → Reach u p j → Changed u (pageChanges h t kept k p) (p + k) (j + k)
   unfolding pageChanges lastOf
-  changes-reach zero kept p u r = record { behind = tt; reach = let e : p ≡ p + 0 = omega arith in rw (← e) r }
-  changes-reach (suc k) kept p u r =
-      let a = change-reach kept p u r in
+  changes-reach zero kept p j u l r =
+      let e : p ≡ p + 0 = omega arith in
+      let f : j ≡ j + 0 = omega arith in
+      record { behind = tt; reach = rw (← e, ← f) r }
+  changes-reach (suc k) kept p j u l r =
+      let a = change-reach kept p j u (omega arith) r in
       let e : p + 1 + k ≡ p + suc k = omega arith in
-      changed-append u (pageChange h t kept p) (pageChanges h t kept k (p + 1)) (p + 1) (p + suc k) a
-      (rw (← e) (changes-reach k kept (p + 1) (lastOf u (pageChange h t kept p)) (a .reach)))
+      let f : j + 1 + k ≡ j + suc k = omega arith in
+      changed-append u (pageChange h t kept p) (pageChanges h t kept k (p + 1)) (p + 1) (p + suc k) (j + 1) (j + suc k) a
+      (rw (← e, ← f) (changes-reach k kept (p + 1) (j + 1) (lastOf u (pageChange h t kept p)) (omega arith) (a .reach)))
 
   no-changes : (k : ℕ) (kept : Bool) (p : ℕ) → bodies h t (pageChanges h t kept k p) ≡ []
   unfolding pageChanges pageChange bodies
@@ -198,39 +202,39 @@ module _ (h : Head) (t : List ℕ) where
   body-walk k kept p g at u w q b l e f =
       let us = pageChanges h t kept k p in
       let v : Due = record { group = g; kept = kept; page = p + k; at = at; turned = k } in
-      let c = changes-reach k kept p u (inl e) in
+      let c = changes-reach k kept p 0 u (omega arith) (inl e) in
       rw q
       (record {
-        behind = chain-append (Behind h t) u us (v ∷ []) (c .behind) (reach-behind (lastOf u us) v (p + k) refl (c .reach), tt);
+        behind = chain-append (Behind h t) u us (v ∷ []) (c .behind) (reach-behind (lastOf u us) v (p + k) (0 + k) (omega arith) refl (c .reach), tt);
         near = rw (bodies-append us (v ∷ []), no-changes k kept p, b) ((omega arith, omega arith), tt);
         last = ap (λ (x : Due). x .page) (last-append u us (v ∷ []));
         body = rw (bodies-append us (v ∷ []), no-changes k kept p, b) refl;
       })
 
   module _ (r : ℕ) (fits : PageFits h t) where
-    made-turned : (d : Turn) (s : Pos) → present h t (d .group) ≡ true → (2 ≤ typeOf h t (d .group)) × (typeOf h t (d .group) ≤ 4) → Turned s (placeGroup h t d s)
+    made-paged : (d : Turn) (s : Pos) → present h t (d .group) ≡ true → (2 ≤ typeOf h t (d .group)) × (typeOf h t (d .group) ≤ 4) → Paged s (placeGroup h t d s)
     unfolding placeGroup placed placedLines
-    made-turned d s p b u w e f =
+    made-paged d s p b u w e f =
         let l = landing (frameOf h t) (bodyOf h t (d .group)) (s .spot) in
         let c : isBody h t (d .group) ≡ true = rw (le-leb 2 (typeOf h t (d .group)) (b .0), le-leb (typeOf h t (d .group)) 4 (b .1)) refl in
         rw p (body-walk (l .changes) (d .kept) (s .page) (d .group) (l .at) u w p c (at-most-two (frameOf h t) (bodyOf h t (d .group)) (s .spot)) e f)
 
-    absent-turned : (d : Turn) (s : Pos) → present h t (d .group) ≡ false → Turned s (placeGroup h t d s)
+    absent-paged : (d : Turn) (s : Pos) → present h t (d .group) ≡ false → Paged s (placeGroup h t d s)
     unfolding placeGroup placed dueOf pageChanges
-    absent-turned d s p u w e f = rw p (walk-none u w (s .page) (s .page) e f)
+    absent-paged d s p u w e f = rw p (walk-none u w (s .page) (s .page) e f)
 
-    group-turned : (d : Turn) (s : Pos) → TurnOk h t r fits d → Turned s (placeGroup h t d s)
-    group-turned d s k = by-test (present h t (d .group)) (λ p. made-turned d s p (k p)) (λ p. absent-turned d s p)
+    group-paged : (d : Turn) (s : Pos) → TurnOk h t r fits d → Paged s (placeGroup h t d s)
+    group-paged d s k = by-test (present h t (d .group)) (λ p. made-paged d s p (k p)) (λ p. absent-paged d s p)
 
-    all-turned : (ds : List Turn) (s : Pos) → All (TurnOk h t r fits) ds → Turned s (placeAll h t ds s)
+    all-paged : (ds : List Turn) (s : Pos) → All (TurnOk h t r fits) ds → Paged s (placeAll h t ds s)
     unfolding placeAll
-    all-turned [] s k = turned-none s
-    all-turned (d ∷ ds) s k = turned-after s (placeGroup h t d s) (placeAll h t ds (placeGroup h t d s .to)) (group-turned d s (k .0)) (all-turned ds (placeGroup h t d s .to) (k .1))
+    all-paged [] s k = paged-none s
+    all-paged (d ∷ ds) s k = paged-after s (placeGroup h t d s) (placeAll h t ds (placeGroup h t d s .to)) (group-paged d s (k .0)) (all-paged ds (placeGroup h t d s .to) (k .1))
 
     -- ---- RH and PH on page 1, PF and RF at the end
-    opening-turned : (s : Pos) → s .page ≡ 1 → Turned s (opening h t)
+    opening-paged : (s : Pos) → s .page ≡ 1 → Paged s (opening h t)
     unfolding opening
-    opening-turned s o u w e f =
+    opening-paged s o u w e f =
         let a = same-page (reportHeading h t) false 1 (rhAt h t) u w 1 (λ p. not-body (reportHeading h t) (inl (let z = type-is h t 0 0 p in omega arith))) (e ∙ o) (f ∙ o) in
         walk-append u w (dueOf h t (reportHeading h t) false 1 (rhAt h t) 0) (dueOf h t (pageHeading h t) false 1 (phAt h t) 0) 1 1 1 1 a
         (same-page (pageHeading h t) false 1 (phAt h t) _ _ 1 ph-body (a .last) (a .body))
@@ -252,7 +256,7 @@ module _ (h : Head) (t : List ℕ) where
     own-walk u w p q o e k f =
         rw (own-present o)
         (record {
-          behind = (inr (record { up = omega arith; footing = λ x. (k x, omega arith); heading = λ x. (inr (o, refl), omega arith) }), tt);
+          behind = (inr (record { up = (omega arith, omega arith); footing = λ x. (k x, omega arith); heading = λ x. (inr (o, refl), omega arith) }), tt);
           near = rw (rf-body (own-present o)) tt;
           last = refl;
           body = rw (rf-body (own-present o)) f;
@@ -273,25 +277,25 @@ module _ (h : Head) (t : List ℕ) where
     abbrev bodyLaid : Plan → Pos → Laid
     bodyLaid p s = after (placeAll h t (turns h t p) s) (nothing (placeAll h t (turns h t p) s .to))
 
-    body-turned : (p : Plan) (s : Pos) → DetailOk h t r fits (p .detail) → Turned s (bodyLaid p s)
-    body-turned p s k =
+    body-paged : (p : Plan) (s : Pos) → DetailOk h t r fits (p .detail) → Paged s (bodyLaid p s)
+    body-paged p s k =
         let a = placeAll h t (turns h t p) s in
-        turned-after s a (nothing (a .to)) (all-turned (turns h t p) s (turns-ok h t r fits p k)) (turned-none (a .to))
+        paged-after s a (nothing (a .to)) (all-paged (turns h t p) s (turns-ok h t r fits p k)) (paged-none (a .to))
 
-    pub first-turned : (p : Plan) (s : Pos) → DetailOk h t r fits (p .detail) → s .page ≡ 1 → Turned s (layout h t true p false s)
+    pub first-paged : (p : Plan) (s : Pos) → DetailOk h t r fits (p .detail) → s .page ≡ 1 → Paged s (layout h t true p false s)
     unfolding layout
-    first-turned p s k e = turned-after s (opening h t) (bodyLaid p (opening h t .to)) (opening-turned s e) (body-turned p (opening h t .to) k)
+    first-paged p s k e = paged-after s (opening h t) (bodyLaid p (opening h t .to)) (opening-paged s e) (body-paged p (opening h t .to) k)
 
-    pub later-turned : (p : Plan) (s : Pos) → DetailOk h t r fits (p .detail) → Turned s (layout h t false p false s)
+    pub later-paged : (p : Plan) (s : Pos) → DetailOk h t r fits (p .detail) → Paged s (layout h t false p false s)
     unfolding layout
-    later-turned p s k = turned-after s (nothing s) (bodyLaid p s) (turned-none s) (body-turned p s k)
+    later-paged p s k = paged-after s (nothing s) (bodyLaid p s) (paged-none s) (body-paged p s k)
 
     -- TERMINATE may leave RF on a page behind the last body group's
-    pub last-turned : (s : Pos) (u w : Due) → u .page ≡ s .page → w .page ≡ s .page →
+    pub last-paged : (s : Pos) (u w : Due) → u .page ≡ s .page → w .page ≡ s .page →
         Walk u w (layout h t false (lastPlan h) true s .dues) (layout h t false (lastPlan h) true s .to .page) (placeAll h t (turns h t (lastPlan h)) s .to .page)
     unfolding layout
-    last-turned s u w e f =
+    last-paged s u w e f =
         let a = placeAll h t (turns h t (lastPlan h)) s in
-        let b = all-turned (turns h t (lastPlan h)) s (turns-ok h t r fits (lastPlan h) (no-detail h t r fits)) u w e f in
+        let b = all-paged (turns h t (lastPlan h)) s (turns-ok h t r fits (lastPlan h) (no-detail h t r fits)) u w e f in
         walk-append u w (a .dues) (closing h t (a .to) .dues) (a .to .page) (a .to .page) (closing h t (a .to) .to .page) (a .to .page) b
         (closing-walk (a .to) (lastOf u (a .dues)) (lastOf w (bodies h t (a .dues))) (b .last) (b .body))

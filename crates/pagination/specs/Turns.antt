@@ -26,7 +26,8 @@ HeadsPage h t v = (v .group ≡ pageHeading h t) ⊎ (ownPage h t ≡ true) × (
 
 -- a page is left between two groups due, v right behind u: "A page change prints PF, adds 1 to page, .. prints PH."
 pub record PageTurn (h : Head) (t : List ℕ) (u v : Due) : Type 0 where
-  pub up : u .page < v .page
+  -- one page, or two where neither PF nor PH has lines
+  pub up : (u .page < v .page) × (v .page ≤ u .page + 2)
   -- where PF has lines, it is the last group of the page that is left
   pub footing : present h t (pageFooting h t) ≡ true → (u .group ≡ pageFooting h t) × (v .page ≡ u .page + 1)
   -- where PH has lines, it is the first group of the page that follows
