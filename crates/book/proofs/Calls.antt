@@ -28,7 +28,6 @@ use Rattle.amounts.specs.Totals.{totalsLast}
 use Rattle.compose.specs.Items.{Inputs}
 use Rattle.compose.specs.Facts.{ItemsIn}
 use Rattle.plan.specs.Plan.{turns, firstPlan, laterPlan, lastPlan}
-use Rattle.layout.specs.declared.Pos.{Pos}
 use Rattle.layout.specs.Layout.{Due, placeAll, layout}
 use Rattle.pages.specs.Outcome.{lastPage}
 use Rattle.pagination.specs.Rising.{rank}
@@ -51,7 +50,7 @@ use Rattle.book.specs.Sheet.{sheetOf}
 use Rattle.book.specs.Demand.{answer, reads}
 use Rattle.book.proofs.Laws.{Laws, RunFacts, IdleFacts, FlagsEnd, good-sums}
 use Rattle.amounts.proofs.Good.{GoodSums}
-use Rattle.book.proofs.Moves.{Moves, moves-none, walk-pages, walk-moves}
+use Rattle.book.proofs.Moves.{moves-none}
 use Rattle.book.proofs.Step.{Ok, refused-ok, settled-ok}
 
 two : (n : ℕ) → n ≤ 2 → (n ≡ 0 → ⊥) → (n ≡ 1 → ⊥) → n ≡ 2
@@ -143,9 +142,6 @@ module _ (d : List ℕ) (accepts : checked d ≡ Accepted) (A : facts.Accepted (
         paged1 : Paged h t (placeOf s) (w1 .laid)
         paged1 = rw laid1 (first-paged h t (b .report) (A .pageFits) (firstPlan h (theDetail h t i)) (placeOf s) detail-ok (ap (λ (x : Report). x .page) fresh))
 
-        moves1 : Moves h t s b (moved w1 (w1 .laid .to)) (turned h t b call (w1 .laid)) (w1 .laid .dues)
-        moves1 = walk-moves h t (s .page) (w1 .laid .to .page) (w1 .laid .to .page) (w1 .laid .dues) paged1 s b _ _ (λ q. absurd (omega arith)) (ap (λ (x : Pos). x .page) (T .place)) refl refl (inr refl)
-
         same1 : w1 .laid ≡ dueFor h t (b .row) call (b .pos)
         same1 = rw (T .begins e .1, T .place) laid1
 
@@ -191,7 +187,7 @@ module _ (d : List ℕ) (accepts : checked d ≡ Accepted) (A : facts.Accepted (
 
         pub first-ok : Ok d Tracks s b call (w1 .inputs) (settled h t s w1 out)
         first-ok = settled-ok d Tracks b call (w1 .inputs) s out T w1 same1 refl items1 (rw (T .place) (placed1 .sound)) refl refl
-            (walk-pages h t (s .page) (w1 .laid .to .page) (w1 .laid .to .page) (w1 .laid .dues) paged1 (omega (arith, ap (λ (x : Report). x .page) fresh))) moves1 next1
+            (λ q. absurd (omega arith)) (rw (T .place) (omega (arith, ap (λ (x : Report). x .page) fresh))) _ (rw (T .place) paged1) (inr refl) next1
 
       -- a later row
       module _ (e : s .phase ≡ 2) where
@@ -216,9 +212,6 @@ module _ (d : List ℕ) (accepts : checked d ≡ Accepted) (A : facts.Accepted (
 
         paged2 : Paged h t (placeOf s) (w2 .laid)
         paged2 = rw laid2 (later-paged h t (b .report) (A .pageFits) (laterPlan h level (theDetail h t i)) (placeOf s) detail-ok)
-
-        moves2 : Moves h t s b (moved w2 (w2 .laid .to)) (turned h t b call (w2 .laid)) (w2 .laid .dues)
-        moves2 = walk-moves h t (s .page) (w2 .laid .to .page) (w2 .laid .to .page) (w2 .laid .dues) paged2 s b _ _ (λ q. absurd (omega arith)) (ap (λ (x : Pos). x .page) (T .place)) refl refl (inr refl)
 
         -- the book finds the break against its own row
         same2 : w2 .laid ≡ dueFor h t (b .row) call (b .pos)
@@ -270,7 +263,7 @@ module _ (d : List ℕ) (accepts : checked d ≡ Accepted) (A : facts.Accepted (
 
         pub later-ok : Ok d Tracks s b call (w2 .inputs) (settled h t s w2 out)
         later-ok = settled-ok d Tracks b call (w2 .inputs) s out T w2 same2 refl items2 (rw (T .place) (placed2 .sound)) refl refl
-            (walk-pages h t (s .page) (w2 .laid .to .page) (w2 .laid .to .page) (w2 .laid .dues) paged2 (facts2 .page1)) moves2 next2
+            (λ q. absurd (omega arith)) (rw (T .place) (facts2 .page1)) _ (rw (T .place) paged2) (inr refl) next2
 
       -- the row's work, by phase
       row-ok : (eqb (s .phase) idle ≡ false) → Ok d Tracks s b call (rowWork h t (literals d) s i row .inputs) (settled h t s (rowWork h t (literals d) s i row) out)
@@ -335,9 +328,6 @@ module _ (d : List ℕ) (accepts : checked d ≡ Accepted) (A : facts.Accepted (
       walk3 : (u w : Due) → u .page ≡ s .page → w .page ≡ s .page → Walk h t u w (w3 .laid .dues) (w3 .laid .to .page) page3
       walk3 = rw laid3 (last-paged h t (b .report) (A .pageFits) (placeOf s))
 
-      moves3 : Moves h t s b (moved w3 (w3 .laid .to)) (turned h t b terminate (w3 .laid)) (w3 .laid .dues)
-      moves3 = walk-moves h t (s .page) (w3 .laid .to .page) page3 (w3 .laid .dues) walk3 s b _ _ (λ q. absurd (omega arith)) (ap (λ (x : Pos). x .page) (T .place)) refl refl (inl phase3)
-
       same3 : w3 .laid ≡ dueFor h t (b .row) terminate (b .pos)
       same3 = rw (T .goes e .1, T .place) laid3
 
@@ -365,7 +355,7 @@ module _ (d : List ℕ) (accepts : checked d ≡ Accepted) (A : facts.Accepted (
       pub last-ok : Ok d Tracks s b terminate (w3 .inputs) (settled h t s w3 out)
       last-ok =
           settled-ok d Tracks b terminate (w3 .inputs) s out T w3 same3 refl items3 (rw (T .place) (closed3 .sound)) refl refl
-          (walk-pages h t (s .page) (w3 .laid .to .page) page3 (w3 .laid .dues) walk3 (facts3 .page1)) moves3
+          (λ q. absurd (omega arith)) (rw (T .place) (facts3 .page1)) page3 (rw (T .place) walk3) (inl phase3)
           (λ o l. idle-tracks (moved w3 (w3 .laid .to)) _ phase3 (idle3 l) long3 refl)
 
     pub terminate-ok : Ok d Tracks s b terminate (reads d s terminate) (answer d s terminate out)

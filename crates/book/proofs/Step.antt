@@ -1,7 +1,7 @@
 -- One call against the book's entry.
 -- Assumes nothing but the laws in `Laws`, which `Demand` supplies.
 use Prim.Native.Nat.{ℕ, _≤_}
-use mathlib.Core.Path.{_≡_, refl}
+use mathlib.Core.Path.{_≡_, refl, ap}
 use mathlib.Core.Bool.{true, false}
 use mathlib.Core.List.{List}
 use mathlib.Core.Logic.{_⊎_, inl, inr}
@@ -18,11 +18,14 @@ use Rattle.description.specs.declared.Checked.the-variants.{Accepted}
 use Rattle.accepted.specs.Accepted as facts
 use Rattle.compose.specs.Items.{Inputs}
 use Rattle.compose.specs.Facts.{ItemsIn}
+use Rattle.layout.specs.declared.Pos.{Pos}
+use Rattle.layout.specs.Layout.{Due}
 use Rattle.pages.specs.Bytes.{dueBytes, byteCount}
 use Rattle.pages.specs.Outcome.{lastPage, pastLast, tooShort, outcome, written}
 use Rattle.pagination.specs.All.{All}
 use Rattle.pagination.specs.Claims.{Sound, rankAt}
 use Rattle.pagination.proofs.Climbs.{all-map}
+use Rattle.pagination.proofs.Turns.{Walk}
 use Rattle.pagination.proofs.Groups.{sound-none}
 use Rattle.report.specs.declared.Report.{Report}
 use Rattle.report.specs.declared.Verdict.{Verdict}
@@ -33,7 +36,7 @@ use Rattle.book.specs.Book.{Call, Book, dueFor, turned, enter}
 use Rattle.book.specs.Sheet.{sheetOf}
 use Rattle.book.specs.Demand.{taken}
 use Rattle.book.proofs.Bytes.{printed-part}
-use Rattle.book.proofs.Moves.{Moves, moves-none}
+use Rattle.book.proofs.Moves.{Moves, moves-none, walk-pages, walk-moves}
 
 -- the book's row and the kept record have the same control values
 module _ (d : List ℕ) where
@@ -74,8 +77,8 @@ module _ (d : List ℕ) where
     module _ (w : Work) (same : w .laid ≡ dueFor h t (b .row) c (b .pos)) (read : reading ≡ w .inputs) (items : ItemsIn h t (w .inputs .lits))
         (sound : Sound h t (b .report) (rankAt (b .report) (b .pos)) (rankAt (b .report) (w .laid .to)) (w .laid .dues))
         (stays : turned h t b c (w .laid) .report ≡ b .report) (place : turned h t b c (w .laid) .pos ≡ w .laid .to)
-        (pages : All (λ u. (1 ≤ u .page) × (u .page ≤ w .laid .to .page)) (w .laid .dues))
-        (moves : Moves h t s b (moved w (w .laid .to)) (turned h t b c (w .laid)) (w .laid .dues))
+        (busy : s .phase ≡ 0 → ⊥) (low : 1 ≤ b .pos .page)
+        (q : ℕ) (walk : (u v : Due) → u .page ≡ b .pos .page → v .page ≡ b .pos .page → Walk h t u v (w .laid .dues) (w .laid .to .page) q) (over : (w .phase ≡ 0) ⊎ (q ≡ w .laid .to .page))
         (next : w .ok ≡ true → w .laid .to .page ≤ lastPage → Inv (moved w (w .laid .to)) (turned h t b c (w .laid))) where
       done-ok : w .ok ≡ true → w .laid .to .page ≤ lastPage → Ok Inv s b c reading (record { answer = record { verdict = verdict.Accepted; count = byteCount h t (w .laid .dues); report = moved w (w .laid .to) }; out = splice out 0 (dueBytes h t (w .inputs) (w .laid .dues)) })
       unfolding enter
@@ -85,8 +88,8 @@ module _ (d : List ℕ) where
         sound = rw (← same, stays, place) sound;
         pages =
             rw (← same)
-            (all-map (λ u. (1 ≤ u .page) × (u .page ≤ w .laid .to .page)) (λ u. (1 ≤ u .page) × (u .page ≤ lastPage)) (λ u k. (k .0, omega (arith, k .1))) (w .laid .dues) pages);
-        moves = rw (← same) moves;
+            (all-map (λ u. (1 ≤ u .page) × (u .page ≤ w .laid .to .page)) (λ u. (1 ≤ u .page) × (u .page ≤ lastPage)) (λ u k. (k .0, omega (arith, k .1))) (w .laid .dues) (walk-pages h t (b .pos .page) (w .laid .to .page) q (w .laid .dues) walk low));
+        moves = rw (← same) (walk-moves h t (b .pos .page) (w .laid .to .page) q (w .laid .dues) walk s b (moved w (w .laid .to)) (turned h t b c (w .laid)) busy refl stays (ap (λ (x : Pos). x .page) place) over);
         next = rw (← same) (next o l);
       }
 
