@@ -30,6 +30,7 @@ use Rattle.compose.specs.Facts.{ItemsIn}
 use Rattle.plan.specs.Plan.{turns, firstPlan, laterPlan, lastPlan}
 use Rattle.layout.specs.Layout.{Due, placeAll, layout}
 use Rattle.pages.specs.Outcome.{lastPage}
+use Rattle.pages.proofs.Bytes.{in-layout}
 use Rattle.pagination.specs.Rising.{rank}
 use Rattle.pagination.specs.Claims.{rankAt, Placed, Closed}
 use Rattle.pagination.proofs.Groups.{sound-none}
@@ -186,7 +187,7 @@ module _ (d : List ℕ) (accepts : checked d ≡ Accepted) (A : facts.Accepted (
         items1 = A .itemsIn
 
         pub first-ok : Ok d Tracks s b call (w1 .inputs) (settled h t s w1 out)
-        first-ok = settled-ok d Tracks b call (w1 .inputs) s out T w1 same1 refl items1 (rw (T .place) (placed1 .sound)) refl refl
+        first-ok = settled-ok d Tracks b call (w1 .inputs) s out T w1 same1 refl items1 (rw laid1 (in-layout h t true (firstPlan h (theDetail h t i)) false (placeOf s))) (rw (T .place) (placed1 .sound)) refl refl
             (λ q. absurd (omega arith)) (rw (T .place) (omega (arith, ap (λ (x : Report). x .page) fresh))) _ (rw (T .place) paged1) (inr refl) next1
 
       -- a later row
@@ -262,7 +263,7 @@ module _ (d : List ℕ) (accepts : checked d ≡ Accepted) (A : facts.Accepted (
         items2 = A .itemsIn
 
         pub later-ok : Ok d Tracks s b call (w2 .inputs) (settled h t s w2 out)
-        later-ok = settled-ok d Tracks b call (w2 .inputs) s out T w2 same2 refl items2 (rw (T .place) (placed2 .sound)) refl refl
+        later-ok = settled-ok d Tracks b call (w2 .inputs) s out T w2 same2 refl items2 (rw laid2 (in-layout h t false (laterPlan h level (theDetail h t i)) false (placeOf s))) (rw (T .place) (placed2 .sound)) refl refl
             (λ q. absurd (omega arith)) (rw (T .place) (facts2 .page1)) _ (rw (T .place) paged2) (inr refl) next2
 
       -- the row's work, by phase
@@ -354,7 +355,7 @@ module _ (d : List ℕ) (accepts : checked d ≡ Accepted) (A : facts.Accepted (
 
       pub last-ok : Ok d Tracks s b terminate (w3 .inputs) (settled h t s w3 out)
       last-ok =
-          settled-ok d Tracks b terminate (w3 .inputs) s out T w3 same3 refl items3 (rw (T .place) (closed3 .sound)) refl refl
+          settled-ok d Tracks b terminate (w3 .inputs) s out T w3 same3 refl items3 (rw laid3 (in-layout h t false (lastPlan h) true (placeOf s))) (rw (T .place) (closed3 .sound)) refl refl
           (λ q. absurd (omega arith)) (rw (T .place) (facts3 .page1)) page3 (rw (T .place) walk3) (inl phase3)
           (λ o l. idle-tracks (moved w3 (w3 .laid .to)) _ phase3 (idle3 l) long3 refl)
 

@@ -1,7 +1,7 @@
 -- One call against the book's entry.
 -- Assumes nothing but the laws in `Laws`, which `Demand` supplies.
 use Prim.Native.Nat.{ℕ, _≤_}
-use mathlib.Core.Path.{_≡_, refl, ap}
+use mathlib.Core.Path.{_≡_, refl, ap, _∙_}
 use mathlib.Core.Bool.{true, false}
 use mathlib.Core.List.{List}
 use mathlib.Core.Logic.{_⊎_, inl, inr}
@@ -21,6 +21,7 @@ use Rattle.compose.specs.Facts.{ItemsIn}
 use Rattle.layout.specs.declared.Pos.{Pos}
 use Rattle.layout.specs.Layout.{Due}
 use Rattle.pages.specs.Bytes.{dueBytes, byteCount}
+use Rattle.pages.proofs.Bytes.{GroupsIn, printed-part}
 use Rattle.pages.specs.Outcome.{lastPage, pastLast, tooShort, outcome, written}
 use Rattle.pagination.specs.All.{All}
 use Rattle.pagination.specs.Claims.{Sound, rankAt}
@@ -35,7 +36,7 @@ use Rattle.report.specs.Result.{Result, refuse, Work, moved, settled}
 use Rattle.book.specs.Book.{Call, Book, dueFor, turned, enter}
 use Rattle.book.specs.Sheet.{sheetOf}
 use Rattle.book.specs.Demand.{taken}
-use Rattle.book.proofs.Bytes.{printed-part}
+use Rattle.book.proofs.Bytes.{sheet-same}
 use Rattle.book.proofs.Moves.{Moves, moves-none, walk-pages, walk-moves}
 
 -- the book's row and the kept record have the same control values
@@ -74,7 +75,7 @@ module _ (d : List ℕ) where
         }
 
     -- a call that prints: 7, 8 and 9, else the groups due by the book
-    module _ (w : Work) (same : w .laid ≡ dueFor h t (b .row) c (b .pos)) (read : reading ≡ w .inputs) (items : ItemsIn h t (w .inputs .lits))
+    module _ (w : Work) (same : w .laid ≡ dueFor h t (b .row) c (b .pos)) (read : reading ≡ w .inputs) (items : ItemsIn h t (w .inputs .lits)) (groups : GroupsIn h (w .laid .dues))
         (sound : Sound h t (b .report) (rankAt (b .report) (b .pos)) (rankAt (b .report) (w .laid .to)) (w .laid .dues))
         (stays : turned h t b c (w .laid) .report ≡ b .report) (place : turned h t b c (w .laid) .pos ≡ w .laid .to)
         (busy : s .phase ≡ 0 → ⊥) (low : 1 ≤ b .pos .page)
@@ -84,7 +85,7 @@ module _ (d : List ℕ) where
       unfolding enter
       done-ok o l = record {
         fine = inl refl;
-        bytes = rw (← same, read) (printed-part h t (w .inputs) items (w .laid .dues) (sound .groups) out);
+        bytes = rw (← same, read) (printed-part h t (w .inputs) items groups out ∙ sheet-same h t (w .inputs) (w .laid .dues));
         sound = rw (← same, stays, place) sound;
         pages =
             rw (← same)

@@ -31,17 +31,16 @@ sum-mono f i n l = ⊎-elim (λ (e : i ≡ n). rw e (omega arith)) (λ (m : i < 
 
 module _ (h : Head) (t : List ℕ) (r : ℕ) where
   pub sound-none : (lo hi : ℕ) → lo ≤ hi → Sound h t r lo hi []
-  sound-none lo hi l = record { climb = l; parts = tt; groups = tt }
+  sound-none lo hi l = record { climb = l; parts = tt }
 
   pub sound-append : (a b c : ℕ) (xs ys : List Due) → Sound h t r a b xs → Sound h t r b c ys → Sound h t r a c (xs ++ ys)
   sound-append a b c xs ys p q = record {
     climb = rw (spots-append h t r xs ys) (climb-append (spotsOf h t r xs) (spotsOf h t r ys) a b c (p .climb) (q .climb));
     parts = all-append (InPart h t) xs ys (p .parts) (q .parts);
-    groups = all-append (λ u. u .group < h .groups) xs ys (p .groups) (q .groups);
   }
 
   pub sound-wider : (a b c : ℕ) (xs : List Due) → b ≤ c → Sound h t r a b xs → Sound h t r a c xs
-  sound-wider a b c xs l p = record { climb = climb-wider (spotsOf h t r xs) a b c (p .climb) l; parts = p .parts; groups = p .groups }
+  sound-wider a b c xs l p = record { climb = climb-wider (spotsOf h t r xs) a b c (p .climb) l; parts = p .parts }
 
   module _ (fits : PageFits h t) where
     has-lines : (g : ℕ) → present h t g ≡ true → 0 < lineCount h t g
@@ -69,7 +68,6 @@ module _ (h : Head) (t : List ℕ) (r : ℕ) where
         record {
           climb = climb-append (spotsAt r (u .page) (linesOf h t u)) [] lo hi hi s (omega arith);
           parts = (lines-all h t g (u .at) (λ x. (partFrom h t g ≤ x) × (x ≤ partTo h t g)) (lineCount h t g) 0 (λ k y x. let w = line-le g (u .at) k (omega arith) in (omega arith, omega arith)), tt);
-          groups = (ltb-true _ _ (and-l (ltb g (h .groups)) (ltb 0 (lineCount h t g)) p), tt);
         }
 
     -- the same for a group that may be absent
