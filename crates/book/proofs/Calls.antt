@@ -1,21 +1,20 @@
 -- INITIATE, GENERATE and TERMINATE against the book: the state's place is the book's, and its kept record has the control values of the book's row.
 -- Assumes nothing but the laws in `Laws`, which `Demand` supplies.
-use Prim.Native.Nat.{ℕ, zero, suc, _+_, _*_, _≤_, _<_}
+use Prim.Native.Nat.{ℕ, zero, suc, _≤_, _<_}
 use mathlib.Core.Path.{_≡_, refl, sym, ap, _∙_}
-use mathlib.Core.Bool.{Bool, true, false, cond, not}
-use mathlib.Core.List.{List, [], _∷_, _++_}
-use mathlib.Core.Logic.{_⊎_, inl, inr, ⊎-elim}
-use mathlib.Core.Option.{Option, none, some}
+use mathlib.Core.Bool.{Bool, true, false}
+use mathlib.Core.List.{List}
+use mathlib.Core.Logic.{inl, inr, ⊎-elim}
+use mathlib.Core.Option.{none, some}
 use native.Mathlib.Omega.{arith}
-use borrow.Author.Tests.{ltb-true, ltb-false, eqb-true, eqb-false, lt-ltb, not-false}
+use borrow.Author.Tests.{ltb-true, ltb-false, eqb-true, eqb-false, not-false}
 use lib.Dec.{ltb, eqb}
-use lib.IntN.{ℤ, pos}
-use lib.ListN.{length, take, getD, set}
-use lib.Seq.{getD-set-same, getD-set-other}
+use lib.IntN.{pos}
+use lib.ListN.{length, getD, set}
 use Rattle.counts.proofs.Laws.{by-test, by-cond}
 use Rattle.tables.specs.declared.Head.{Head}
 use Rattle.tables.specs.Head.{headOf}
-use Rattle.tables.specs.Table.{typeOf, lineCount, table, literals}
+use Rattle.tables.specs.Table.{lineCount, table, literals}
 use Rattle.lookup.specs.Find.{theDetail, details}
 use Rattle.description.specs.declared.Checked.the-variants.{Accepted}
 use Rattle.description.specs.Check.{checked}
@@ -24,36 +23,35 @@ use Rattle.rows.specs.Fields.{formed, firstMalformed}
 use Rattle.rows.specs.Breaks.{breakLevel, SameControls}
 use Rattle.rows.proofs.Fields.{first-malformed}
 use Rattle.rows.proofs.Breaks.{break-values, break-none}
-use Rattle.sums.specs.declared.Totals.{Totals}
 use Rattle.sums.proofs.Range.{getD-set}
-use Rattle.amounts.specs.Totals.{totalsFirst, totalsLater, totalsLast}
+use Rattle.amounts.specs.Totals.{totalsLast}
 use Rattle.compose.specs.Items.{Inputs}
 use Rattle.compose.specs.Facts.{ItemsIn}
-use Rattle.place.specs.Rules.{Running}
-use Rattle.shape.specs.Shape.{frameOf}
-use Rattle.plan.specs.Plan.{firstPlan, laterPlan, lastPlan}
-use Rattle.layout.specs.declared.Pos.{Pos}
-use Rattle.layout.specs.Layout.{Laid, layout, nothing}
-use Rattle.pages.specs.Bytes.{dueBytes}
+use Rattle.plan.specs.Plan.{turns, firstPlan, laterPlan, lastPlan}
+use Rattle.layout.specs.Layout.{Due, placeAll, layout}
 use Rattle.pages.specs.Outcome.{lastPage}
+use Rattle.pages.proofs.Bytes.{in-layout}
 use Rattle.pagination.specs.Rising.{rank}
-use Rattle.pagination.specs.Claims.{Sound, rankAt, Placed, Closed}
+use Rattle.pagination.specs.Claims.{rankAt, Placed, Closed}
 use Rattle.pagination.proofs.Groups.{sound-none}
 use Rattle.pagination.proofs.Calls.{DetailOk, first-placed, later-placed, last-placed, detail-is}
+use Rattle.pagination.proofs.Turns.{Walk, Paged, first-paged, later-paged, last-paged}
 use Rattle.state.specs.Rules.{idle, started, running}
-use Rattle.state.specs.Kept.{paddedRow, flagsSet}
+use Rattle.state.specs.Kept.{flagsSet}
 use Rattle.report.specs.declared.Report.{Report}
 use Rattle.report.specs.declared.Verdict.{Verdict}
 use Rattle.report.specs.declared.Verdict.the-variants as verdict
 use Rattle.report.specs.Verdict.{number}
 use Rattle.report.specs.State.{freshAt, keeps, placeOf}
-use Rattle.report.specs.Result.{Result, refuse, Work, moved, settled}
-use Rattle.report.specs.Calls.{cleared, firstWork, flagsAt, breaks, laterWork, rowWork, lastWork, startTried, rowTried, endTried, unless, begun, ended, generatedOn, terminatedOn, initiatedOn}
+use Rattle.report.specs.Result.{refuse, Work, moved, settled}
+use Rattle.report.specs.Calls.{cleared, firstWork, flagsAt, breaks, laterWork, rowWork, lastWork, startTried, rowTried, endTried, begun, ended, generatedOn, terminatedOn, initiatedOn}
 use Rattle.report.specs.Calls as calls
-use Rattle.book.specs.Book.{Call, initiate, generate, terminate, Book, freshPos, freshBook, dueFor, turned, Entry, entered, enter}
-use Rattle.book.specs.Demand.{taken, answer, reads}
+use Rattle.book.specs.Book.{Call, initiate, generate, terminate, Book, freshPos, freshBook, dueFor, turned, enter}
+use Rattle.book.specs.Sheet.{sheetOf}
+use Rattle.book.specs.Demand.{answer, reads}
 use Rattle.book.proofs.Laws.{Laws, RunFacts, IdleFacts, FlagsEnd, good-sums}
 use Rattle.amounts.proofs.Good.{GoodSums}
+use Rattle.book.proofs.Moves.{moves-none}
 use Rattle.book.proofs.Step.{Ok, refused-ok, settled-ok}
 
 two : (n : ℕ) → n ≤ 2 → (n ≡ 0 → ⊥) → (n ≡ 1 → ⊥) → n ≡ 2
@@ -95,16 +93,18 @@ module _ (d : List ℕ) (accepts : checked d ≡ Accepted) (A : facts.Accepted (
     idle-climb : s .phase ≡ 0 → rankAt (b .report) (b .pos) ≤ rank (suc (b .report)) 1 0
     idle-climb e = let f = L .idle-facts s e (T .kept) in rw (T .place) (omega (arith, f .page2, f .line, A .pageFits .page999))
 
-    initiate-begins : s .phase ≡ 0 → Ok d Tracks b initiate (reads d s initiate) (begun out)
-    unfolding enter dueBytes
+    initiate-begins : s .phase ≡ 0 → Ok d Tracks s b initiate (reads d s initiate) (begun out)
+    unfolding enter sheetOf
     initiate-begins e = record {
       fine = inl refl;
       bytes = refl;
       sound = sound-none h t (b .report) (rankAt (b .report) (b .pos)) (rank (suc (b .report)) 1 0) (idle-climb e);
+      pages = tt;
+      moves = moves-none h t s b (freshAt 1) (record { report = suc (b .report); row = none; pos = freshPos }) (omega arith) (λ l. refl) (λ u w m q. absurd (omega arith));
       next = begun-tracks (record { report = suc (b .report); row = none; pos = freshPos }) refl refl;
     }
 
-    pub initiate-ok : Ok d Tracks b initiate (reads d s initiate) (answer d s initiate out)
+    pub initiate-ok : Ok d Tracks s b initiate (reads d s initiate) (answer d s initiate out)
     unfolding calls.initiate initiatedOn startTried
     initiate-ok =
         rw (accepts, T .kept)
@@ -139,6 +139,9 @@ module _ (d : List ℕ) (accepts : checked d ≡ Accepted) (A : facts.Accepted (
 
         placed1 : Placed h t (b .report) (placeOf s) (w1 .laid)
         placed1 = rw laid1 (first-placed h t (b .report) (A .pageFits) (firstPlan h (theDetail h t i)) (placeOf s) detail-ok (ap (λ (x : Report). x .page) fresh) (ap (λ (x : Report). x .line) fresh))
+
+        paged1 : Paged h t (placeOf s) (w1 .laid)
+        paged1 = rw laid1 (first-paged h t (b .report) (A .pageFits) (firstPlan h (theDetail h t i)) (placeOf s) detail-ok (ap (λ (x : Report). x .page) fresh))
 
         same1 : w1 .laid ≡ dueFor h t (b .row) call (b .pos)
         same1 = rw (T .begins e .1, T .place) laid1
@@ -183,8 +186,9 @@ module _ (d : List ℕ) (accepts : checked d ≡ Accepted) (A : facts.Accepted (
         unfolding firstWork
         items1 = A .itemsIn
 
-        pub first-ok : Ok d Tracks b call (w1 .inputs) (settled h t s w1 out)
-        first-ok = settled-ok d Tracks b call (w1 .inputs) s out T w1 same1 refl items1 (rw (T .place) (placed1 .sound)) refl refl next1
+        pub first-ok : Ok d Tracks s b call (w1 .inputs) (settled h t s w1 out)
+        first-ok = settled-ok d Tracks b call (w1 .inputs) s out T w1 same1 refl items1 (rw laid1 (in-layout h t true (firstPlan h (theDetail h t i)) false (placeOf s))) (rw (T .place) (placed1 .sound)) refl refl
+            (λ q. absurd (omega arith)) (rw (T .place) (omega (arith, ap (λ (x : Report). x .page) fresh))) _ (rw (T .place) paged1) (inr refl) next1
 
       -- a later row
       module _ (e : s .phase ≡ 2) where
@@ -206,6 +210,9 @@ module _ (d : List ℕ) (accepts : checked d ≡ Accepted) (A : facts.Accepted (
 
         placed2 : Placed h t (b .report) (placeOf s) (w2 .laid)
         placed2 = rw laid2 (later-placed h t (b .report) (A .pageFits) (laterPlan h level (theDetail h t i)) (placeOf s) detail-ok (facts2 .spot))
+
+        paged2 : Paged h t (placeOf s) (w2 .laid)
+        paged2 = rw laid2 (later-paged h t (b .report) (A .pageFits) (laterPlan h level (theDetail h t i)) (placeOf s) detail-ok)
 
         -- the book finds the break against its own row
         same2 : w2 .laid ≡ dueFor h t (b .row) call (b .pos)
@@ -255,20 +262,21 @@ module _ (d : List ℕ) (accepts : checked d ≡ Accepted) (A : facts.Accepted (
         unfolding laterWork
         items2 = A .itemsIn
 
-        pub later-ok : Ok d Tracks b call (w2 .inputs) (settled h t s w2 out)
-        later-ok = settled-ok d Tracks b call (w2 .inputs) s out T w2 same2 refl items2 (rw (T .place) (placed2 .sound)) refl refl next2
+        pub later-ok : Ok d Tracks s b call (w2 .inputs) (settled h t s w2 out)
+        later-ok = settled-ok d Tracks b call (w2 .inputs) s out T w2 same2 refl items2 (rw laid2 (in-layout h t false (laterPlan h level (theDetail h t i)) false (placeOf s))) (rw (T .place) (placed2 .sound)) refl refl
+            (λ q. absurd (omega arith)) (rw (T .place) (facts2 .page1)) _ (rw (T .place) paged2) (inr refl) next2
 
       -- the row's work, by phase
-      row-ok : (eqb (s .phase) idle ≡ false) → Ok d Tracks b call (rowWork h t (literals d) s i row .inputs) (settled h t s (rowWork h t (literals d) s i row) out)
+      row-ok : (eqb (s .phase) idle ≡ false) → Ok d Tracks s b call (rowWork h t (literals d) s i row .inputs) (settled h t s (rowWork h t (literals d) s i row) out)
       row-ok n =
           by-test (eqb (s .phase) started)
           (λ e. rw e (first-ok (eqb-true (s .phase) 1 e)))
           (λ e. rw e (later-ok (two (s .phase) (L .phase-listed s (T .kept)) (eqb-false (s .phase) 0 n) (eqb-false (s .phase) 1 e))))
 
-    no-ok : (c : Call) (reading : Inputs) (v : Verdict) → 3 ≤ number v → number v ≤ 9 → eqb (number v) 0 ≡ false → Ok d Tracks b c reading (refuse s out v)
+    no-ok : (c : Call) (reading : Inputs) (v : Verdict) → 3 ≤ number v → number v ≤ 9 → eqb (number v) 0 ≡ false → Ok d Tracks s b c reading (refuse s out v)
     no-ok c reading v l m e = refused-ok d Tracks b c reading s out T v l m e
 
-    pub generate-ok : (i : ℕ) (row : List ℕ) → Ok d Tracks b (generate i row) (reads d s (generate i row)) (answer d s (generate i row) out)
+    pub generate-ok : (i : ℕ) (row : List ℕ) → Ok d Tracks s b (generate i row) (reads d s (generate i row)) (answer d s (generate i row) out)
     unfolding calls.generate generatedOn rowTried
     generate-ok i row =
         rw (accepts, T .kept)
@@ -283,14 +291,16 @@ module _ (d : List ℕ) (accepts : checked d ≡ Accepted) (A : facts.Accepted (
         (λ g. rw (n, g) (no-ok (generate i row) _ verdict.Detail (omega arith) (omega arith) refl))))
 
     -- ---- TERMINATE
-    started-ends : s .phase ≡ 1 → Ok d Tracks b terminate (reads d s terminate) (ended out)
-    unfolding enter dueBytes
+    started-ends : s .phase ≡ 1 → Ok d Tracks s b terminate (reads d s terminate) (ended out)
+    unfolding enter sheetOf
     started-ends e =
         let r = T .begins e in
         record {
           fine = inl refl;
           bytes = rw (r .1) refl;
           sound = rw (r .1) (sound-none h t (b .report) (rankAt (b .report) (b .pos)) (rankAt (b .report) (b .pos)) (omega arith));
+          pages = rw (r .1) tt;
+          moves = rw (r .1) (moves-none h t s (record { report = b .report; row = none; pos = b .pos }) (freshAt 0) (record { report = b .report; row = none; pos = b .pos }) (omega arith) (λ l. absurd (omega arith)) (λ u w m q. inl refl));
           next = rw (r .1) (idle-tracks (freshAt 0) _ refl fresh-idle (L .zero-sums .long) (T .place ∙ ap placeOf (r .0)));
         }
 
@@ -307,6 +317,17 @@ module _ (d : List ℕ) (accepts : checked d ≡ Accepted) (A : facts.Accepted (
 
       closed3 : Closed h t (b .report) (placeOf s) (w3 .laid)
       closed3 = rw laid3 (last-placed h t (b .report) (A .pageFits) (placeOf s) (facts3 .spot))
+
+      phase3 : w3 .phase ≡ 0
+      unfolding lastWork
+      phase3 = refl
+
+      -- the page of the last body group
+      abbrev page3 : ℕ
+      page3 = placeAll h t (turns h t (lastPlan h)) (placeOf s) .to .page
+
+      walk3 : (u w : Due) → u .page ≡ s .page → w .page ≡ s .page → Walk h t u w (w3 .laid .dues) (w3 .laid .to .page) page3
+      walk3 = rw laid3 (last-paged h t (b .report) (A .pageFits) (placeOf s))
 
       same3 : w3 .laid ≡ dueFor h t (b .row) terminate (b .pos)
       same3 = rw (T .goes e .1, T .place) laid3
@@ -328,20 +349,17 @@ module _ (d : List ℕ) (accepts : checked d ≡ Accepted) (A : facts.Accepted (
       unfolding lastWork
       long3 = last3 .long
 
-      phase3 : w3 .phase ≡ 0
-      unfolding lastWork
-      phase3 = refl
-
       items3 : ItemsIn h t (w3 .inputs .lits)
       unfolding lastWork
       items3 = A .itemsIn
 
-      pub last-ok : Ok d Tracks b terminate (w3 .inputs) (settled h t s w3 out)
+      pub last-ok : Ok d Tracks s b terminate (w3 .inputs) (settled h t s w3 out)
       last-ok =
-          settled-ok d Tracks b terminate (w3 .inputs) s out T w3 same3 refl items3 (rw (T .place) (closed3 .sound)) refl refl
+          settled-ok d Tracks b terminate (w3 .inputs) s out T w3 same3 refl items3 (rw laid3 (in-layout h t false (lastPlan h) true (placeOf s))) (rw (T .place) (closed3 .sound)) refl refl
+          (λ q. absurd (omega arith)) (rw (T .place) (facts3 .page1)) page3 (rw (T .place) walk3) (inl phase3)
           (λ o l. idle-tracks (moved w3 (w3 .laid .to)) _ phase3 (idle3 l) long3 refl)
 
-    pub terminate-ok : Ok d Tracks b terminate (reads d s terminate) (answer d s terminate out)
+    pub terminate-ok : Ok d Tracks s b terminate (reads d s terminate) (answer d s terminate out)
     unfolding calls.terminate terminatedOn endTried
     terminate-ok =
         rw (accepts, T .kept)
@@ -351,7 +369,7 @@ module _ (d : List ℕ) (accepts : checked d ≡ Accepted) (A : facts.Accepted (
         (λ e. rw (n, e) (started-ends (eqb-true (s .phase) 1 e)))
         (λ e. rw (n, e) (last-ok (two (s .phase) (L .phase-listed s (T .kept)) (eqb-false (s .phase) 0 n) (eqb-false (s .phase) 1 e))))))
 
-    pub call-ok : (c : Call) → Ok d Tracks b c (reads d s c) (answer d s c out)
+    pub call-ok : (c : Call) → Ok d Tracks s b c (reads d s c) (answer d s c out)
     call-ok initiate = initiate-ok
     call-ok (generate i row) = generate-ok i row
     call-ok terminate = terminate-ok

@@ -1,44 +1,43 @@
 -- One call against the book's entry.
 -- Assumes nothing but the laws in `Laws`, which `Demand` supplies.
-use Prim.Native.Nat.{ℕ, zero, suc, _+_, _*_, _≤_, _<_}
-use mathlib.Core.Path.{_≡_, refl, sym, ap, _∙_}
-use mathlib.Core.Bool.{Bool, true, false, cond}
-use mathlib.Core.List.{List, [], _∷_, _++_}
+use Prim.Native.Nat.{ℕ, _≤_}
+use mathlib.Core.Path.{_≡_, refl, ap, _∙_}
+use mathlib.Core.Bool.{true, false}
+use mathlib.Core.List.{List}
 use mathlib.Core.Logic.{_⊎_, inl, inr}
-use mathlib.Core.Option.{Option, none, some}
 use native.Mathlib.Omega.{arith}
-use borrow.Author.Tests.{ltb-true, ltb-false, eqb-true, eqb-false}
-use lib.Dec.{ltb, eqb}
+use borrow.Author.Tests.{ltb-false}
+use lib.Dec.{eqb}
 use lib.ListN.{length, take}
 use Rattle.counts.proofs.Laws.{by-test}
 use Rattle.splice.specs.Splice.{splice}
 use Rattle.tables.specs.declared.Head.{Head}
 use Rattle.tables.specs.Head.{headOf}
-use Rattle.tables.specs.Table.{typeOf, table, literals}
-use Rattle.lookup.specs.Find.{theDetail, details}
+use Rattle.tables.specs.Table.{table}
 use Rattle.description.specs.declared.Checked.the-variants.{Accepted}
-use Rattle.description.specs.Check.{checked}
 use Rattle.accepted.specs.Accepted as facts
 use Rattle.compose.specs.Items.{Inputs}
 use Rattle.compose.specs.Facts.{ItemsIn}
 use Rattle.layout.specs.declared.Pos.{Pos}
-use Rattle.layout.specs.Layout.{Due, Laid}
+use Rattle.layout.specs.Layout.{Due}
 use Rattle.pages.specs.Bytes.{dueBytes, byteCount}
+use Rattle.pages.proofs.Bytes.{GroupsIn, printed-part}
 use Rattle.pages.specs.Outcome.{lastPage, pastLast, tooShort, outcome, written}
 use Rattle.pagination.specs.All.{All}
-use Rattle.pagination.specs.Rising.{rank, spotsOf}
 use Rattle.pagination.specs.Claims.{Sound, rankAt}
+use Rattle.pagination.proofs.Climbs.{all-map}
+use Rattle.pagination.proofs.Turns.{Walk}
 use Rattle.pagination.proofs.Groups.{sound-none}
 use Rattle.report.specs.declared.Report.{Report}
 use Rattle.report.specs.declared.Verdict.{Verdict}
 use Rattle.report.specs.declared.Verdict.the-variants as verdict
 use Rattle.report.specs.Verdict.{number}
-use Rattle.report.specs.State.{freshAt, keeps, placeOf}
 use Rattle.report.specs.Result.{Result, refuse, Work, moved, settled}
-use Rattle.book.specs.Book.{Call, initiate, generate, terminate, Book, freshPos, freshBook, dueFor, turned, Entry, entered, enter}
+use Rattle.book.specs.Book.{Call, Book, dueFor, turned, enter}
+use Rattle.book.specs.Sheet.{sheetOf}
 use Rattle.book.specs.Demand.{taken}
-use Rattle.book.proofs.Laws.{Laws, RunFacts, IdleFacts}
-use Rattle.book.proofs.Bytes.{printed-part}
+use Rattle.book.proofs.Bytes.{sheet-same}
+use Rattle.book.proofs.Moves.{Moves, moves-none, walk-pages, walk-moves}
 
 -- the book's row and the kept record have the same control values
 module _ (d : List ℕ) where
@@ -53,39 +52,49 @@ module _ (d : List ℕ) where
   Fine n = (n ≡ 0) ⊎ (3 ≤ n) × (n ≤ 9)
 
   -- what one call must show, for the book's entry and whatever invariant is carried
-  pub record Ok (Inv : Report → Book → Type 0) (b : Book) (c : Call) (reading : Inputs) (r : Result) : Type 0 where
+  pub record Ok (Inv : Report → Book → Type 0) (s : Report) (b : Book) (c : Call) (reading : Inputs) (r : Result) : Type 0 where
     pub fine : Fine (number (r .answer .verdict))
-    pub bytes : take (r .answer .count) (r .out) ≡ dueBytes h t reading (enter h t b c (taken d r) .dues)
+    pub bytes : take (r .answer .count) (r .out) ≡ sheetOf h t reading (enter h t b c (taken d r) .dues)
     pub sound : Sound h t (enter h t b c (taken d r) .report) (rankAt (b .report) (b .pos)) (rankAt (enter h t b c (taken d r) .next .report) (enter h t b c (taken d r) .next .pos)) (enter h t b c (taken d r) .dues)
+    pub pages : All (λ u. (1 ≤ u .page) × (u .page ≤ lastPage)) (enter h t b c (taken d r) .dues)
+    pub moves : Moves h t s b (r .answer .report) (enter h t b c (taken d r) .next) (enter h t b c (taken d r) .dues)
     pub next : Inv (r .answer .report) (enter h t b c (taken d r) .next)
 
   module _ (Inv : Report → Book → Type 0) (b : Book) (c : Call) (reading : Inputs) (s : Report) (out : List ℕ) (inv : Inv s b) where
     -- a refusal changes nothing
-    pub refused-ok : (v : Verdict) → 3 ≤ number v → number v ≤ 9 → eqb (number v) 0 ≡ false → Ok Inv b c reading (refuse s out v)
-    unfolding enter dueBytes
+    pub refused-ok : (v : Verdict) → 3 ≤ number v → number v ≤ 9 → eqb (number v) 0 ≡ false → Ok Inv s b c reading (refuse s out v)
+    unfolding enter sheetOf
     refused-ok v l m e =
         record {
           fine = inr (l, m);
           bytes = rw e refl;
           sound = rw e (sound-none h t (b .report) (rankAt (b .report) (b .pos)) (rankAt (b .report) (b .pos)) (omega arith));
+          pages = rw e tt;
+          moves = rw e (moves-none h t s b s b (omega arith) (λ q. absurd (omega arith)) (λ u w m _. m));
           next = rw e inv;
         }
 
     -- a call that prints: 7, 8 and 9, else the groups due by the book
-    module _ (w : Work) (same : w .laid ≡ dueFor h t (b .row) c (b .pos)) (read : reading ≡ w .inputs) (items : ItemsIn h t (w .inputs .lits))
+    module _ (w : Work) (same : w .laid ≡ dueFor h t (b .row) c (b .pos)) (read : reading ≡ w .inputs) (items : ItemsIn h t (w .inputs .lits)) (groups : GroupsIn h (w .laid .dues))
         (sound : Sound h t (b .report) (rankAt (b .report) (b .pos)) (rankAt (b .report) (w .laid .to)) (w .laid .dues))
         (stays : turned h t b c (w .laid) .report ≡ b .report) (place : turned h t b c (w .laid) .pos ≡ w .laid .to)
+        (busy : s .phase ≡ 0 → ⊥) (low : 1 ≤ b .pos .page)
+        (q : ℕ) (walk : (u v : Due) → u .page ≡ b .pos .page → v .page ≡ b .pos .page → Walk h t u v (w .laid .dues) (w .laid .to .page) q) (over : (w .phase ≡ 0) ⊎ (q ≡ w .laid .to .page))
         (next : w .ok ≡ true → w .laid .to .page ≤ lastPage → Inv (moved w (w .laid .to)) (turned h t b c (w .laid))) where
-      done-ok : w .ok ≡ true → w .laid .to .page ≤ lastPage → Ok Inv b c reading (record { answer = record { verdict = verdict.Accepted; count = byteCount h t (w .laid .dues); report = moved w (w .laid .to) }; out = splice out 0 (dueBytes h t (w .inputs) (w .laid .dues)) })
+      done-ok : w .ok ≡ true → w .laid .to .page ≤ lastPage → Ok Inv s b c reading (record { answer = record { verdict = verdict.Accepted; count = byteCount h t (w .laid .dues); report = moved w (w .laid .to) }; out = splice out 0 (dueBytes h t (w .inputs) (w .laid .dues)) })
       unfolding enter
       done-ok o l = record {
         fine = inl refl;
-        bytes = rw (← same, read) (printed-part h t (w .inputs) items (w .laid .dues) (sound .groups) out);
+        bytes = rw (← same, read) (printed-part h t (w .inputs) items groups out ∙ sheet-same h t (w .inputs) (w .laid .dues));
         sound = rw (← same, stays, place) sound;
+        pages =
+            rw (← same)
+            (all-map (λ u. (1 ≤ u .page) × (u .page ≤ w .laid .to .page)) (λ u. (1 ≤ u .page) × (u .page ≤ lastPage)) (λ u k. (k .0, omega (arith, k .1))) (w .laid .dues) (walk-pages h t (b .pos .page) (w .laid .to .page) q (w .laid .dues) walk low));
+        moves = rw (← same) (walk-moves h t (b .pos .page) (w .laid .to .page) q (w .laid .dues) walk s b (moved w (w .laid .to)) (turned h t b c (w .laid)) busy refl stays (ap (λ (x : Pos). x .page) place) over);
         next = rw (← same) (next o l);
       }
 
-      pub settled-ok : Ok Inv b c reading (settled h t s w out)
+      pub settled-ok : Ok Inv s b c reading (settled h t s w out)
       unfolding settled outcome written
       settled-ok =
           by-test (w .ok)

@@ -1,27 +1,24 @@
 -- The laws of the crates below, as the proof of demand 3 takes them, for an accepted description.
 -- Assumes nothing.
-use Prim.Native.Nat.{ℕ, _+_, _≤_, _<_}
-use mathlib.Core.Path.{_≡_, refl, sym, _∙_}
-use mathlib.Core.Bool.{Bool, true, false}
+use Prim.Native.Nat.{ℕ}
+use mathlib.Core.Path.{_≡_, refl, _∙_}
+use mathlib.Core.Bool.{true, false}
 use mathlib.Core.List.{List}
 use native.Mathlib.Omega.{arith}
-use lib.IntN.{ℤ, pos}
-use lib.ListN.{length, getD, replicate, length-replicate}
+use lib.IntN.{pos}
+use lib.ListN.{replicate}
 use Rattle.tables.specs.declared.Head.{Head}
 use Rattle.lookup.specs.Find.{details}
 use Rattle.accepted.specs.Accepted.{Accepted}
-use Rattle.sums.specs.Sums.{sumsOk}
-use Rattle.amounts.proofs.Good.{GoodSums, first-good, later-good, last-good}
-use Rattle.place.specs.Rules.{Running}
+use Rattle.amounts.proofs.Good.{first-good, later-good, last-good}
 use Rattle.shape.specs.Shape.{frameOf}
-use Rattle.state.specs.Rules.{stateOk}
-use Rattle.state.specs.Facts.{PageIn, Ranged, RunningState}
-use Rattle.state.proofs.States.{idle-facts, idle-ok, started-ok, running-facts, running-ok, by-phase, fresh-ok}
+use Rattle.state.specs.Facts.{PageIn}
+use Rattle.state.proofs.States.{idle-facts, idle-ok, started-ok, running-facts, running-ok, by-phase}
 use Rattle.state.proofs.Kept.{padded-zero, padded-formed, padded-controls, flagsSet-beyond}
 use Rattle.report.specs.declared.Report.{Report}
-use Rattle.report.specs.State.{freshAt, keeps, placeOf}
+use Rattle.report.specs.State.{keeps}
 use Rattle.report.proofs.Ready.{zeros-good}
-use Rattle.book.proofs.Laws.{RunFacts, IdleFacts, good-sums, Laws}
+use Rattle.book.proofs.Laws.{RunFacts, IdleFacts, Laws}
 
 module _ (h : Head) (t lits : List ℕ) (A : Accepted h t lits) where
   page-in : PageIn h

@@ -1,8 +1,9 @@
 -- Demand 3's book: "Its book sees the description, the calls with d and record, and which were accepted, but no state and no output".
-use Prim.Native.Nat.{ℕ, zero, suc}
+use Prim.Native.Nat.{ℕ, suc}
 use mathlib.Core.List.{List, [], _∷_, _++_}
 use mathlib.Core.Bool.{Bool, true, false, cond}
 use mathlib.Core.Option.{Option, none, some}
+use lib.Dec.{eqb}
 use Rattle.tables.specs.declared.Head.{Head}
 use Rattle.lookup.specs.Find.{theDetail}
 use Rattle.rows.specs.Breaks.{breakLevel}
@@ -67,9 +68,14 @@ module _ (h : Head) (t : List ℕ) where
   book b [] = []
   book b (e ∷ es) = let p = enter b (e .call) (e .taken) in p ∷ book (p .next) es
 
+  -- the groups due, in order: all of them, and those of report r
   unfoldable pub duesIn : List Entry → List Due
   duesIn [] = []
   duesIn (p ∷ ps) = p .dues ++ duesIn ps
+
+  unfoldable pub duesOf : ℕ → List Entry → List Due
+  duesOf r [] = []
+  duesOf r (p ∷ ps) = cond (eqb (p .report) r) (p .dues) [] ++ duesOf r ps
 
   unfoldable pub spotsIn : List Entry → List Spot
   spotsIn [] = []

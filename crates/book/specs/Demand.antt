@@ -1,27 +1,26 @@
 -- Demand 3, for every accepted description and every list of calls from a fresh state.
-use Prim.Native.Nat.{ℕ, zero, suc, _≤_}
+use Prim.Native.Nat.{ℕ, _≤_}
 use mathlib.Core.Path.{_≡_}
 use mathlib.Core.List.{List, [], _∷_, _++_}
 use mathlib.Core.Logic.{_⊎_}
-use mathlib.Core.Bool.{Bool, true, false}
+use mathlib.Core.Bool.{Bool, false}
 use lib.ListN.{take}
 use Rattle.tables.specs.declared.Head.{Head}
 use Rattle.tables.specs.Head.{headOf}
 use Rattle.tables.specs.Table.{table, literals}
 use Rattle.compose.specs.Items.{Inputs, inputs}
-use Rattle.layout.specs.Layout.{Due}
-use Rattle.pages.specs.Bytes.{dueBytes}
+use Rattle.pages.specs.Outcome.{lastPage}
 use Rattle.pagination.specs.All.{All}
 use Rattle.pagination.specs.Rising.{Rises}
 use Rattle.pagination.specs.Parts.{InPart}
+use Rattle.pagination.specs.Turns.{Chain, noGroup, Behind, bodies, UpToTwo}
 use Rattle.report.specs.declared.Report.{Report}
-use Rattle.report.specs.declared.Verdict.{Verdict}
 use Rattle.report.specs.Verdict.{number, accepted}
-use Rattle.report.specs.State.{freshAt}
 use Rattle.report.specs.Result.{Result}
 use Rattle.report.specs.Calls.{rowWork, lastWork}
 use Rattle.report.specs.Calls as calls
-use Rattle.book.specs.Book.{Call, initiate, generate, terminate, freshBook, Entry, Event, book, duesIn, spotsIn}
+use Rattle.book.specs.Book.{Call, initiate, generate, terminate, freshBook, Entry, Event, book, duesIn, duesOf, spotsIn}
+use Rattle.book.specs.Sheet.{sheetOf}
 
 -- a call with the output lent to it
 pub record Use : Type 0 where
@@ -29,6 +28,12 @@ pub record Use : Type 0 where
   pub out : List ℕ
 
 module _ (d : List ℕ) where
+  abbrev h : Head
+  h = headOf d
+
+  abbrev t : List ℕ
+  t = table d
+
   -- what the call answers: the definitions that the promises of INITIATE, GENERATE and TERMINATE cite
   abbrev pub answer : Report → Call → List ℕ → Result
   answer s initiate out = calls.initiate d s out
@@ -38,8 +43,8 @@ module _ (d : List ℕ) where
   -- what the call's items read, by demand 2's definition
   abbrev pub reads : Report → Call → Inputs
   reads s initiate = inputs [] [] [] [] false
-  reads s (generate i row) = rowWork (headOf d) (table d) (literals d) s i row .inputs
-  reads s terminate = lastWork (headOf d) (table d) (literals d) s .inputs
+  reads s (generate i row) = rowWork h t (literals d) s i row .inputs
+  reads s terminate = lastWork h t (literals d) s .inputs
 
   pub record Done : Type 0 where
     pub call : Call
@@ -63,27 +68,37 @@ module _ (d : List ℕ) where
   abbrev pub taken : Result → Bool
   taken r = accepted (r .answer .verdict)
 
-  unfoldable pub events : List Done → List (Event (headOf d) (table d))
+  unfoldable pub events : List Done → List (Event h t)
   events [] = []
   events (x ∷ xs) = record { call = x .call; taken = taken (x .result) } ∷ events xs
 
   -- the lines of the groups due by the book, with the characters that each call's own definition gives them
-  unfoldable pub due : List (Entry (headOf d) (table d)) → List Done → List ℕ
+  unfoldable pub due : List (Entry h t) → List Done → List ℕ
   due [] xs = []
   due (p ∷ ps) [] = []
-  due (p ∷ ps) (x ∷ xs) = dueBytes (headOf d) (table d) (x .reading) (p .dues) ++ due ps xs
+  due (p ∷ ps) (x ∷ xs) = sheetOf h t (x .reading) (p .dues) ++ due ps xs
 
   -- "a call is refused only for reasons 3 to 9"
   abbrev pub Allowed : Done → Type 0
   Allowed x = (number (x .result .answer .verdict) ≡ 0) ⊎ (3 ≤ number (x .result .answer .verdict)) × (number (x .result .answer .verdict) ≤ 9)
 
+  -- the book of a list of calls
+  abbrev pub bookOf : List Done → List (Entry h t)
+  bookOf xs = book h t freshBook (events xs)
+
   pub record Demand3 (xs : List Done) : Type 0 where
     pub refusals : All Allowed xs
-    -- "the bytes that the accepted calls printed, joined, are exactly the lines of the groups due by document 01's book"
-    pub bytes : printed xs ≡ due (book (headOf d) (table d) freshBook (events xs)) xs
+    -- "the bytes that the accepted calls printed, joined, are exactly the lines of the groups due by document 01's book": each line with its page and
+    -- with the line number that the claims below speak of
+    pub bytes : printed xs ≡ due (bookOf xs) xs
     -- "each whole on one page, inside its part of the page"
-    pub parts : All (InPart (headOf d) (table d)) (duesIn (headOf d) (table d) (book (headOf d) (table d) freshBook (events xs)))
+    pub parts : All (InPart h t) (duesIn h t (bookOf xs))
+    -- "page 1 to 999,999": six digits show it
+    pub pages : All (λ u. (1 ≤ u .page) × (u .page ≤ lastPage)) (duesIn h t (bookOf xs))
     -- "line numbers rise on each page of a report"
-    pub rising : Rises (spotsIn (headOf d) (table d) (book (headOf d) (table d) freshBook (events xs)))
-    -- "no body group turns more than two pages"
-    pub turns : All (λ u. u .turned ≤ 2) (duesIn (headOf d) (table d) (book (headOf d) (table d) freshBook (events xs)))
+    pub rising : Rises (spotsIn h t (bookOf xs))
+    -- "no body group turns more than two pages": of one report's body groups each is at most two pages behind the one before it, the first at most two
+    -- behind page 1
+    pub turns : (r : ℕ) → Chain UpToTwo (noGroup h) (bodies h t (duesOf h t r (bookOf xs)))
+    -- "a page change for a body group makes PF, then PH, due before it": where they have lines, a page that is left ends in PF, and the next begins with PH
+    pub changes : (r : ℕ) → Chain (Behind h t) (noGroup h) (duesOf h t r (bookOf xs))

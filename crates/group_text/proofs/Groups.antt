@@ -8,10 +8,11 @@ use native.Mathlib.Omega.{arith}
 use lib.ListN.{length, length-append}
 use Rattle.tables.specs.declared.Head.{Head}
 use Rattle.tables.specs.Table.{firstLine, lineCount}
+use Rattle.lines.specs.Lines.{lineNumber}
 use Rattle.compose.specs.Items.{Inputs}
 use Rattle.compose.specs.Facts.{LineIn, ItemsIn}
 use Rattle.compose.proofs.Lines.{length-lineBytes}
-use Rattle.group_text.specs.Groups.{joinFrom, lineNumber, ownBytes, groupBytes}
+use Rattle.group_text.specs.Groups.{joinFrom, ownBytes, groupBytes}
 
 module _ (f : ℕ → List ℕ) where
   -- what is left at index k of n
@@ -54,4 +55,4 @@ pub length-groupBytes : (h : Head) (t : List ℕ) (inp : Inputs) (fromKept : Boo
 unfolding groupBytes
 length-groupBytes h t inp fromKept page at g s l =
     length-join (ownBytes h t inp fromKept page at g) (lineCount h t g) 0 (h .width + 10)
-    (λ k _ m. length-lineBytes h t inp fromKept page (lineNumber h t at g k) (firstLine h t g + k) (line-in s g k l (omega arith)))
+    (λ k _ m. length-lineBytes h t inp fromKept page (lineNumber h t g at k) (firstLine h t g + k) (line-in s g k l (omega arith)))

@@ -2,10 +2,9 @@
 use Prim.Native.Nat.{ℕ, zero, suc, _+_}
 use mathlib.Core.Bool.{Bool}
 use mathlib.Core.List.{List, [], _++_}
-use Rattle.counts.specs.Below.{sumBelow}
 use Rattle.tables.specs.declared.Head.{Head}
 use Rattle.tables.specs.Table.{firstLine, lineCount}
-use Rattle.lines.specs.Lines.{step}
+use Rattle.lines.specs.Lines.{lineNumber}
 use Rattle.compose.specs.Items.{Inputs}
 use Rattle.compose.specs.Lines.{lineBytes}
 
@@ -14,13 +13,9 @@ unfoldable pub joinFrom : ℕ → ℕ → (ℕ → List ℕ) → List ℕ
 joinFrom zero k f = []
 joinFrom (suc n) k f = f k ++ joinFrom n (k + 1) f
 
--- the line of the page that line k of group g prints on, where its first line prints on line at
-abbrev pub lineNumber : Head → List ℕ → ℕ → ℕ → ℕ → ℕ
-lineNumber h t at g k = at + sumBelow k (step h t g)
-
 -- the record of line k of group g
 abbrev pub ownBytes : Head → List ℕ → Inputs → Bool → ℕ → ℕ → ℕ → ℕ → List ℕ
-ownBytes h t inp fromKept page at g k = lineBytes h t inp fromKept page (lineNumber h t at g k) (firstLine h t g + k)
+ownBytes h t inp fromKept page at g k = lineBytes h t inp fromKept page (lineNumber h t g at k) (firstLine h t g + k)
 
 -- the records of group g, printed on a page from line at on
 unfoldable pub groupBytes : Head → List ℕ → Inputs → Bool → ℕ → ℕ → ℕ → List ℕ

@@ -1,20 +1,15 @@
 -- The lines of the groups due: their numbers, and how many there are. Assumes nothing: these are definitions.
 use Prim.Native.Nat.{ℕ, zero, suc, _+_}
 use mathlib.Core.List.{List, [], _∷_}
-use Rattle.counts.specs.Below.{sumBelow}
 use Rattle.tables.specs.declared.Head.{Head}
 use Rattle.tables.specs.Table.{lineCount}
-use Rattle.lines.specs.Lines.{step}
+use Rattle.lines.specs.Lines.{lineNumber}
 use Rattle.layout.specs.Layout.{Due}
-
--- the line of the page that line k of a group prints on, where its first is at a line: "later lines relative"
-abbrev pub lineAt : Head → List ℕ → ℕ → ℕ → ℕ → ℕ
-lineAt h t g at k = at + sumBelow k (step h t g)
 
 -- those of n lines from line k on
 unfoldable pub linesFrom : Head → List ℕ → ℕ → ℕ → ℕ → ℕ → List ℕ
 linesFrom h t g at zero k = []
-linesFrom h t g at (suc n) k = lineAt h t g at k ∷ linesFrom h t g at n (k + 1)
+linesFrom h t g at (suc n) k = lineNumber h t g at k ∷ linesFrom h t g at n (k + 1)
 
 -- the line numbers of a group due
 unfoldable pub linesOf : Head → List ℕ → Due → List ℕ

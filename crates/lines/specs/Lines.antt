@@ -24,6 +24,10 @@ laterLine h t i k = firstLine h t i + 1 + k
 abbrev pub step : Head → List ℕ → ℕ → ℕ → ℕ
 step h t i k = lineInt h t (laterLine h t i k)
 
+-- the line of the page that line k of group g prints on, where its first is at line `at`: "later lines relative"
+abbrev pub lineNumber : Head → List ℕ → ℕ → ℕ → ℕ → ℕ
+lineNumber h t g at k = at + sumBelow k (step h t g)
+
 -- "span the sum of later steps"
 unfoldable pub span : Head → List ℕ → ℕ → ℕ
 span h t i = sumBelow (later h t i) (step h t i)

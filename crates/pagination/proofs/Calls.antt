@@ -1,34 +1,33 @@
 -- The layouts of the calls: first and later GENERATE, TERMINATE.
 -- Assumes nothing.
-use Prim.Native.Nat.{ℕ, zero, suc, _+_, _*_, _-_, _≤_, _<_}
-use mathlib.Core.Path.{_≡_, refl, sym, ap, _∙_}
+use Prim.Native.Nat.{ℕ, zero, suc, _+_, _-_, _≤_, _<_}
+use mathlib.Core.Path.{_≡_, refl}
 use mathlib.Core.Bool.{Bool, true, false, cond}
 use mathlib.Core.List.{List, [], _∷_, _++_}
 use native.Mathlib.Omega.{arith}
-use lib.Dec.{leb, ltb, eqb}
+use lib.Dec.{ltb, eqb}
 use borrow.Author.Tests.{ltb-true, eqb-true}
 use Rattle.counts.specs.Below.{sumBelow, firstBelow}
 use Rattle.counts.proofs.Laws.{by-test, by-cond, and-l, first-at}
 use Rattle.tables.specs.declared.Head.{Head}
 use Rattle.tables.specs.Table.{typeOf, lineCount}
-use Rattle.lookup.specs.Find.{theGroup, theDetail, isDetail, detailBit}
+use Rattle.lookup.specs.Find.{theDetail, isDetail, detailBit}
 use Rattle.lines.specs.Lines.{span}
-use Rattle.fits.specs.Starts.{present, startFrom, lastFrom, aboveHead, headEnd, footEnd}
+use Rattle.fits.specs.Starts.{present, lastFrom, aboveHead, headEnd, footEnd}
 use Rattle.place.specs.Rules.{Running}
 use Rattle.place.proofs.Within.{fresh-running, line-le, saved-le}
 use Rattle.shape.specs.Shape.{frameOf}
-use Rattle.plan.specs.declared.Turn.{Turn}
 use Rattle.plan.specs.declared.Plan.{Plan}
-use Rattle.plan.specs.Plan.{footing, heading, detail, footings, headings, turns, firstPlan, laterPlan, lastPlan}
+use Rattle.plan.specs.Plan.{detail, footings, headings, turns, lastPlan}
 use Rattle.layout.specs.declared.Pos.{Pos}
-use Rattle.layout.specs.Layout.{Due, Laid, dueOf, reportHeading, pageHeading, pageFooting, reportFooting, lineAfter, rhAt, phAt, pfAt, rfAt, opening, ownPage, afterFooting, onOwnPage, footingPage, closing, after, placeAll, nothing, layout}
+use Rattle.layout.specs.Layout.{dueOf, reportHeading, pageHeading, pageFooting, reportFooting, lineAfter, rhAt, phAt, pfAt, rfAt, opening, ownPage, closing, after, placeAll, nothing, layout}
 use Rattle.pagination.specs.All.{All}
 use Rattle.pagination.specs.Rising.{rank}
 use Rattle.pagination.specs.Parts.{partFrom, partTo}
 use Rattle.pagination.specs.Facts.{PageFits}
 use Rattle.pagination.specs.Claims.{Sound, rankAt, Placed, Closed}
 use Rattle.pagination.proofs.Climbs.{all-append}
-use Rattle.pagination.proofs.Groups.{sound-none, sound-append, sound-wider, heading-sound, type-is}
+use Rattle.pagination.proofs.Groups.{sound-none, sound-append, heading-sound, type-is}
 use Rattle.pagination.proofs.Lands.{footing-part, page-heading-part, report-heading-part, TurnOk, all-placed, placed-none, placed-after}
 
 module _ (h : Head) (t : List ℕ) (r : ℕ) (fits : PageFits h t) where
@@ -181,7 +180,7 @@ module _ (h : Head) (t : List ℕ) (r : ℕ) (fits : PageFits h t) where
 
   -- ---- the calls
   -- TERMINATE's plan has no detail
-  no-detail : DetailOk (h .groups)
+  pub no-detail : DetailOk (h .groups)
   no-detail p = let z : h .groups < h .groups = ltb-true _ _ (and-l (ltb (h .groups) (h .groups)) (ltb 0 (lineCount h t (h .groups))) p) in absurd (omega arith)
 
   body : (p : Plan) (s : Pos) → DetailOk (p .detail) → Running (frameOf h t) (s .spot) → Placed h t r s (after (placeAll h t (turns h t p) s) (nothing (placeAll h t (turns h t p) s .to)))

@@ -1,12 +1,13 @@
 -- Laws of `All`, `Climb` and `Rises`.
 -- Assumes nothing.
-use Prim.Native.Nat.{ℕ, zero, suc, _+_, _*_, _≤_, _<_}
+use Prim.Native.Nat.{ℕ, zero, suc, _+_, _≤_, _<_}
 use mathlib.Core.Path.{_≡_, refl, sym}
 use mathlib.Core.List.{List, [], _∷_, _++_, append-assoc}
 use native.Mathlib.Omega.{arith}
 use Rattle.tables.specs.declared.Head.{Head}
+use Rattle.lines.specs.Lines.{lineNumber}
 use Rattle.layout.specs.Layout.{Due}
-use Rattle.layout.specs.Lines.{lineAt, linesFrom, linesOf}
+use Rattle.layout.specs.Lines.{linesFrom, linesOf}
 use Rattle.pagination.specs.All.{All}
 use Rattle.pagination.specs.Rising.{Spot, spotsAt, spotsOf, Later, Rises, rank, rankOf, Climb}
 
@@ -49,19 +50,19 @@ spots-append h t r (x ∷ xs) ys =
 
 module _ (h : Head) (t : List ℕ) (g at : ℕ) where
   -- lines that rise by themselves climb
-  pub lines-climb : (r page n k lo hi : ℕ) → lo ≤ hi → (0 < n → lo < rank r page (lineAt h t g at k)) → ((j : ℕ) → k ≤ j → j + 1 < k + n → lineAt h t g at j < lineAt h t g at (j + 1)) →
-      ((j : ℕ) → k ≤ j → j < k + n → rank r page (lineAt h t g at j) ≤ hi) → Climb lo (spotsAt r page (linesFrom h t g at n k)) hi
+  pub lines-climb : (r page n k lo hi : ℕ) → lo ≤ hi → (0 < n → lo < rank r page (lineNumber h t g at k)) → ((j : ℕ) → k ≤ j → j + 1 < k + n → lineNumber h t g at j < lineNumber h t g at (j + 1)) →
+      ((j : ℕ) → k ≤ j → j < k + n → rank r page (lineNumber h t g at j) ≤ hi) → Climb lo (spotsAt r page (linesFrom h t g at n k)) hi
   unfolding linesFrom
   lines-climb r page zero k lo hi l a s b = l
   lines-climb r page (suc n) k lo hi l a s b = (
     a (omega arith),
-    lines-climb r page n (k + 1) (rank r page (lineAt h t g at k)) hi (b k (omega arith) (omega arith))
+    lines-climb r page n (k + 1) (rank r page (lineNumber h t g at k)) hi (b k (omega arith) (omega arith))
         (λ q. let z = s k (omega arith) (omega arith) in omega arith)
         (λ j p q. s j (omega arith) (omega arith))
         (λ j p q. b j (omega arith) (omega arith)),
   )
 
-  pub lines-all : (F : ℕ → Type 0) (n k : ℕ) → ((j : ℕ) → k ≤ j → j < k + n → F (lineAt h t g at j)) → All F (linesFrom h t g at n k)
+  pub lines-all : (F : ℕ → Type 0) (n k : ℕ) → ((j : ℕ) → k ≤ j → j < k + n → F (lineNumber h t g at j)) → All F (linesFrom h t g at n k)
   unfolding linesFrom
   lines-all F zero k p = tt
   lines-all F (suc n) k p = (p k (omega arith) (omega arith), lines-all F n (k + 1) (λ j a b. p j (omega arith) (omega arith)))

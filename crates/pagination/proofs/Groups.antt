@@ -1,28 +1,27 @@
 -- One due group: its lines climb inside its part.
 -- Assumes nothing.
-use Prim.Native.Nat.{ℕ, zero, suc, _+_, _*_, _-_, _≤_, _<_}
-use mathlib.Core.Path.{_≡_, refl, sym, ap, _∙_}
-use mathlib.Core.Bool.{Bool, true, false, cond, _&&_}
+use Prim.Native.Nat.{ℕ, _+_, _≤_, _<_}
+use mathlib.Core.Path.{_≡_}
+use mathlib.Core.Bool.{Bool, true}
 use mathlib.Core.List.{List, [], _∷_, _++_}
 use mathlib.Core.Logic.{⊎-elim}
 use native.Mathlib.Nat.{eq-or-lt-of-le}
 use native.Mathlib.Omega.{arith}
 use borrow.Author.Tests.{ltb-true, eqb-true}
-use lib.Dec.{ltb, leb, eqb}
+use lib.Dec.{ltb, eqb}
 use Rattle.counts.specs.Below.{sumBelow, firstBelow}
 use Rattle.counts.proofs.Laws.{by-cond, and-l, and-r, sum-part, first-at}
 use Rattle.tables.specs.declared.Head.{Head}
 use Rattle.tables.specs.Table.{typeOf, levelOf, lineCount}
 use Rattle.lookup.specs.Find.{isAt, theGroup}
-use Rattle.lines.specs.Lines.{span, later, step}
+use Rattle.lines.specs.Lines.{span, later, step, lineNumber}
 use Rattle.fits.specs.Starts.{present}
 use Rattle.layout.specs.Layout.{Due, dueOf}
-use Rattle.layout.specs.Lines.{lineAt, linesOf}
+use Rattle.layout.specs.Lines.{linesOf}
 use Rattle.layout.proofs.Numbers.{line-first, line-next}
-use Rattle.pagination.specs.All.{All}
-use Rattle.pagination.specs.Rising.{Climb, rank, spotsAt, spotsOf}
+use Rattle.pagination.specs.Rising.{rank, spotsAt, spotsOf}
 use Rattle.pagination.specs.Parts.{partFrom, partTo, InPart}
-use Rattle.pagination.specs.Facts.{Stands, PageFits}
+use Rattle.pagination.specs.Facts.{PageFits}
 use Rattle.pagination.specs.Claims.{Sound}
 use Rattle.pagination.proofs.Climbs.{all-append, climb-append, climb-wider, spots-append, lines-climb, lines-all}
 
@@ -32,47 +31,43 @@ sum-mono f i n l = ⊎-elim (λ (e : i ≡ n). rw e (omega arith)) (λ (m : i < 
 
 module _ (h : Head) (t : List ℕ) (r : ℕ) where
   pub sound-none : (lo hi : ℕ) → lo ≤ hi → Sound h t r lo hi []
-  sound-none lo hi l = record { climb = l; parts = tt; turns = tt; groups = tt }
+  sound-none lo hi l = record { climb = l; parts = tt }
 
   pub sound-append : (a b c : ℕ) (xs ys : List Due) → Sound h t r a b xs → Sound h t r b c ys → Sound h t r a c (xs ++ ys)
   sound-append a b c xs ys p q = record {
     climb = rw (spots-append h t r xs ys) (climb-append (spotsOf h t r xs) (spotsOf h t r ys) a b c (p .climb) (q .climb));
     parts = all-append (InPart h t) xs ys (p .parts) (q .parts);
-    turns = all-append (λ u. u .turned ≤ 2) xs ys (p .turns) (q .turns);
-    groups = all-append (λ u. u .group < h .groups) xs ys (p .groups) (q .groups);
   }
 
   pub sound-wider : (a b c : ℕ) (xs : List Due) → b ≤ c → Sound h t r a b xs → Sound h t r a c xs
-  sound-wider a b c xs l p = record { climb = climb-wider (spotsOf h t r xs) a b c (p .climb) l; parts = p .parts; turns = p .turns; groups = p .groups }
+  sound-wider a b c xs l p = record { climb = climb-wider (spotsOf h t r xs) a b c (p .climb) l; parts = p .parts }
 
   module _ (fits : PageFits h t) where
     has-lines : (g : ℕ) → present h t g ≡ true → 0 < lineCount h t g
     has-lines g p = ltb-true _ _ (and-r (ltb g (h .groups)) (ltb 0 (lineCount h t g)) p)
 
     -- line k of a group lies between its first line and its last
-    line-le : (g at k : ℕ) → k < lineCount h t g → lineAt h t g at k ≤ at + span h t g
+    line-le : (g at k : ℕ) → k < lineCount h t g → lineNumber h t g at k ≤ at + span h t g
     unfolding span
     line-le g at k l = let z = sum-mono (step h t g) k (later h t g) (omega arith) in omega arith
 
-    line-up : (g at k : ℕ) → present h t g ≡ true → k + 1 < lineCount h t g → lineAt h t g at k < lineAt h t g at (k + 1)
+    line-up : (g at k : ℕ) → present h t g ≡ true → k + 1 < lineCount h t g → lineNumber h t g at k < lineNumber h t g at (k + 1)
     line-up g at k p l =
         let z = fits .steps g k p (omega arith) in
         let e = line-next h t g at k in
         omega arith
 
     -- a group that is due at a line
-    due-sound : (u : Due) (lo hi a b : ℕ) → present h t (u .group) ≡ true → u .turned ≤ 2 → a ≤ u .at → u .at + span h t (u .group) ≤ b →
+    due-sound : (u : Due) (lo hi a b : ℕ) → present h t (u .group) ≡ true → a ≤ u .at → u .at + span h t (u .group) ≤ b →
         lo < rank r (u .page) a → rank r (u .page) b ≤ hi → partFrom h t (u .group) ≤ a → b ≤ partTo h t (u .group) → Sound h t r lo hi (u ∷ [])
     unfolding linesOf
-    due-sound u lo hi a b p n l m c d e f =
+    due-sound u lo hi a b p l m c d e f =
         let g = u .group in
         let z = line-first h t g (u .at) in
         let s = lines-climb h t g (u .at) r (u .page) (lineCount h t g) 0 lo hi (omega arith) (λ x. omega arith) (λ k y x. line-up g (u .at) k p (omega arith)) (λ k y x. let w = line-le g (u .at) k (omega arith) in omega arith) in
         record {
           climb = climb-append (spotsAt r (u .page) (linesOf h t u)) [] lo hi hi s (omega arith);
           parts = (lines-all h t g (u .at) (λ x. (partFrom h t g ≤ x) × (x ≤ partTo h t g)) (lineCount h t g) 0 (λ k y x. let w = line-le g (u .at) k (omega arith) in (omega arith, omega arith)), tt);
-          turns = (n, tt);
-          groups = (ltb-true _ _ (and-l (ltb g (h .groups)) (ltb 0 (lineCount h t g)) p), tt);
         }
 
     -- the same for a group that may be absent
@@ -81,14 +76,14 @@ module _ (h : Head) (t : List ℕ) (r : ℕ) where
     unfolding dueOf
     heading-sound g page at kept lo hi a b w c l d e =
         by-cond (Sound h t r lo hi) (present h t g)
-        (λ p. due-sound (record { group = g; kept = kept; page = page; at = at; turned = 0 }) lo hi a b p (omega arith) (w p .0) (w p .1) c d (e p .0) (e p .1))
+        (λ p. due-sound (record { group = g; kept = kept; page = page; at = at; turned = 0 }) lo hi a b p (w p .0) (w p .1) c d (e p .0) (e p .1))
         (λ p. sound-none lo hi l)
 
-    pub body-sound : (g page at changes : ℕ) (kept : Bool) (lo hi : ℕ) → present h t g ≡ true → changes ≤ 2 → lo < rank r page at → rank r page (at + span h t g) ≤ hi →
+    pub body-sound : (g page at changes : ℕ) (kept : Bool) (lo hi : ℕ) → present h t g ≡ true → lo < rank r page at → rank r page (at + span h t g) ≤ hi →
         partFrom h t g ≤ at → at + span h t g ≤ partTo h t g → Sound h t r lo hi (dueOf h t g kept page at changes)
     unfolding dueOf
-    body-sound g page at changes kept lo hi p n c d e f =
-        rw p (due-sound (record { group = g; kept = kept; page = page; at = at; turned = changes }) lo hi at (at + span h t g) p n (omega arith) (omega arith) c d e f)
+    body-sound g page at changes kept lo hi p c d e f =
+        rw p (due-sound (record { group = g; kept = kept; page = page; at = at; turned = changes }) lo hi at (at + span h t g) p (omega arith) (omega arith) c d e f)
 
 -- the group found by type and level has that type
 pub type-is : (h : Head) (t : List ℕ) (type level : ℕ) → present h t (theGroup h t type level) ≡ true → typeOf h t (theGroup h t type level) ≡ type

@@ -1,29 +1,28 @@
 -- Body groups, with their page changes, climb inside their parts, and leave a place of a running state.
 -- Assumes nothing.
-use Prim.Native.Nat.{ℕ, zero, suc, _+_, _*_, _-_, _≤_, _<_}
-use mathlib.Core.Path.{_≡_, refl, sym, ap, _∙_}
+use Prim.Native.Nat.{ℕ, zero, suc, _+_, _-_, _≤_, _<_}
+use mathlib.Core.Path.{_≡_, refl}
 use mathlib.Core.Bool.{Bool, true, false, cond}
 use mathlib.Core.List.{List, [], _∷_, _++_}
 use mathlib.Core.Logic.{⊎-elim}
 use native.Mathlib.Nat.{eq-or-lt-of-le}
 use native.Mathlib.Omega.{arith}
-use lib.Dec.{leb, eqb}
+use lib.Dec.{eqb}
 use borrow.Author.Tests.{eqb-true, eqb-false, lt-leb, le-leb}
-use Rattle.counts.proofs.Laws.{by-test, by-cond}
+use Rattle.counts.proofs.Laws.{by-test}
 use Rattle.tables.specs.declared.Head.{Head}
 use Rattle.tables.specs.Table.{typeOf}
 use Rattle.lines.specs.Lines.{span}
 use Rattle.fits.specs.Starts.{present, startFrom, aboveHead}
 use Rattle.place.specs.declared.Landing.{Landing}
-use Rattle.place.specs.declared.Next.{Next}
 use Rattle.place.specs.declared.Next.the-variants as next
 use Rattle.place.specs.Place.{landing, followed}
-use Rattle.place.specs.Rules.{Described, NextIn, Running, Inside}
-use Rattle.place.proofs.Within.{within, rises, at-most-two, line-le, followed-ge, kept-running}
-use Rattle.shape.specs.Shape.{bodyOf, nextOf, frameOf, lowOf}
+use Rattle.place.specs.Rules.{NextIn, Running}
+use Rattle.place.proofs.Within.{within, rises, line-le, followed-ge, kept-running}
+use Rattle.shape.specs.Shape.{bodyOf, nextOf, frameOf}
 use Rattle.plan.specs.declared.Turn.{Turn}
 use Rattle.layout.specs.declared.Pos.{Pos}
-use Rattle.layout.specs.Layout.{Due, Laid, dueOf, pageHeading, pageFooting, pageChange, pageChanges, nextFor, placedBy, placedLines, placed, placeGroup, after, placeAll}
+use Rattle.layout.specs.Layout.{Due, Laid, dueOf, pageHeading, pageFooting, pageChange, pageChanges, nextFor, placedLines, placed, placeGroup, after, placeAll}
 use Rattle.pagination.specs.All.{All}
 use Rattle.pagination.specs.Rising.{rank}
 use Rattle.pagination.specs.Parts.{partFrom, partTo}
@@ -116,12 +115,12 @@ module _ (h : Head) (t : List ℕ) (r : ℕ) (fits : PageFits h t) where
     abbrev lands : Landing
     lands = landing (frameOf h t) (bodyOf h t (d .group)) (s .spot)
 
-    lands-in : (h .fd ≤ lands .at) × (lands .at + span h t (d .group) ≤ bodyOf h t (d .group) .low) × (bodyOf h t (d .group) .low ≤ h .ft) × (lands .changes ≤ 2)
+    lands-in : (h .fd ≤ lands .at) × (lands .at + span h t (d .group) ≤ bodyOf h t (d .group) .low) × (bodyOf h t (d .group) .low ≤ h .ft)
     unfolding frameOf bodyOf
     lands-in =
         let b = fits .body (d .group) p (k .0) (k .1) in
         let i = within (frameOf h t) (bodyOf h t (d .group)) (s .spot) b run in
-        (i .first, i .last, b .low, at-most-two (frameOf h t) (bodyOf h t (d .group)) (s .spot))
+        (i .first, i .last, b .low)
 
     lands-up : lands .changes ≡ 0 → s .spot .line < lands .at
     lands-up = rises (frameOf h t) (bodyOf h t (d .group)) (s .spot) (fits .body (d .group) p (k .0) (k .1)) run
@@ -148,7 +147,7 @@ module _ (h : Head) (t : List ℕ) (r : ℕ) (fits : PageFits h t) where
         let m = mark (lands .changes) (s .page) lo in
         let grow : x ≤ followed (h .ft) (nextFor h t d) x (lands .spot .saved) .line = followed-ge (h .ft) (nextFor h t d) x (lands .spot .saved) (omega (arith, i .1, i .2)) in
         let a = changes-sound (lands .changes) (s .page) lo (d .kept) (omega (arith, line-in)) in
-        let b = body-sound h t r fits g c (lands .at) (lands .changes) (d .kept) m (rank r c x) p (i .3) (mark-under (lands .changes) (s .page) (s .spot .line) (lands .at) lands-up (i .0)) (omega arith) (omega (arith, part .0, i .0)) (omega (arith, part .1, i .1)) in
+        let b = body-sound h t r fits g c (lands .at) (lands .changes) (d .kept) m (rank r c x) p (mark-under (lands .changes) (s .page) (s .spot .line) (lands .at) lands-up (i .0)) (omega arith) (omega (arith, part .0, i .0)) (omega (arith, part .1, i .1)) in
         rw p
         (record {
           sound = sound-wider h t r lo (rank r c x) _ _ (omega (arith, grow)) (sound-append h t r lo m (rank r c x) (pageChanges h t (d .kept) (lands .changes) (s .page)) (dueOf h t g (d .kept) c (lands .at) (lands .changes)) a b);

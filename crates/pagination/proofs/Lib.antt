@@ -3,3 +3,4 @@ pub mod Climbs
 pub mod Groups
 pub mod Lands
 pub mod Calls
+pub mod Turns

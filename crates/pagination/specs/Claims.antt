@@ -1,5 +1,5 @@
 -- What holds of a call's layout.
-use Prim.Native.Nat.{ℕ, _≤_, _<_}
+use Prim.Native.Nat.{ℕ, _≤_}
 use mathlib.Core.List.{List}
 use Rattle.tables.specs.declared.Head.{Head}
 use Rattle.place.specs.Rules.{Running}
@@ -10,13 +10,10 @@ use Rattle.pagination.specs.All.{All}
 use Rattle.pagination.specs.Rising.{Climb, rank, spotsOf}
 use Rattle.pagination.specs.Parts.{InPart}
 
--- groups due, in report r: their lines rise from above lo to hi at most, stand in their parts, none has more than two page changes, and each is a
--- group of the description
+-- groups due, in report r: their lines rise from above lo to hi at most, and stand in their parts
 pub record Sound (h : Head) (t : List ℕ) (r lo hi : ℕ) (dues : List Due) : Type 0 where
   pub climb : Climb lo (spotsOf h t r dues) hi
   pub parts : All (InPart h t) dues
-  pub turns : All (λ u. u .turned ≤ 2) dues
-  pub groups : All (λ u. u .group < h .groups) dues
 
 abbrev pub rankAt : ℕ → Pos → ℕ
 rankAt r p = rank r (p .page) (p .spot .line)

@@ -2,5 +2,6 @@
 pub mod All
 pub mod Rising
 pub mod Parts
+pub mod Turns
 pub mod Facts
 pub mod Claims

@@ -8,9 +8,9 @@ use borrow.Author.Needs.{needs}
 use Rattle.counts.specs.Below.{sumBelow}
 use Rattle.counts.proofs.Laws.{sum-next}
 use Rattle.splice.proofs.Going.{Going, going-start, going-room, going-on, going-end}
-use Rattle.lines.specs.Lines.{step}
+use Rattle.lines.specs.Lines.{step, lineNumber}
 use Rattle.compose.specs.Items.{inputs}
-use Rattle.group_text.specs.Groups.{joinFrom, lineNumber, ownBytes, groupBytes}
+use Rattle.group_text.specs.Groups.{joinFrom, ownBytes, groupBytes}
 use Rattle.group_text.proofs.Groups.{join-start, join-next, join-end, line-in}
 use Rattle.group_text.proofs.print_group.Statement.{statement}
 use Rattle.group_text.proofs.print_group.Tie as tie
@@ -19,7 +19,7 @@ abbrev Inv-loop : tie.InvT-loop
 Inv-loop t h lits kept row sums from-kept flag page first g at out₀ start n line₀ to₀ k₀ out line to k =
     Going out₀ at (groupBytes h t (inputs lits kept row sums flag) from-kept page first g) out to (joinFrom (n - k) k (ownBytes h t (inputs lits kept row sums flag) from-kept page first g))
     × (k ≤ n)
-    × (line ≡ lineNumber h t first g k)
+    × (line ≡ lineNumber h t g first k)
     × (line ≤ first + k * 65535)
 
 abbrev μ-loop : tie.MeasureT-loop
