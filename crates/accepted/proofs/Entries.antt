@@ -10,6 +10,7 @@ use lib.ListN.{length}
 use borrow.Author.Tests.{leb-true, ltb-true, eqb-true, eqb-false, eq-eqb, ne-eqb}
 use Rattle.counts.specs.Below.{allBelow}
 use Rattle.counts.proofs.Laws.{by-test, and-l, and-r, or-r, all-at}
+use Rattle.ascii.proofs.Laws.{printable-there}
 use Rattle.tables.specs.declared.Head.{Head}
 use Rattle.tables.specs.Table.{fieldKind, fieldOffset, fieldWidth, control, final, typeOf, firstLine, lineCount, firstItem, itemCount, itemColumn, itemWidth, itemKind, itemIndex, itemDecimals, counterGroup, firstAddend, addendCount, addendKind, addendIndex, addendMask}
 use Rattle.lookup.specs.Find.{details}
@@ -79,17 +80,17 @@ module _ (h : Head) (t : List ℕ) where
   -- ---- items
   module _ (lits : List ℕ) where
     -- a source by its kind
-    literal-in : (g i : ℕ) → sourceOk h t lits g i ≡ true → itemKind h t i ≡ 0 → itemIndex h t i + itemWidth h t i ≤ length lits
+    literal-in : (g i : ℕ) → sourceOk h t g i ≡ true → itemKind h t i ≡ 0 → itemIndex h t i + itemWidth h t i ≤ h .literals
     unfolding sourceOk
     literal-in g i e q = leb-true _ _ (rw q at e)
 
-    field-in : (g i : ℕ) → sourceOk h t lits g i ≡ true → itemKind h t i ≡ 1 → itemIndex h t i < h .fields
+    field-in : (g i : ℕ) → sourceOk h t g i ≡ true → itemKind h t i ≡ 1 → itemIndex h t i < h .fields
     unfolding sourceOk
     field-in g i e q =
         let f : fieldItemOk h t g (itemIndex h t i) ≡ true = rw q at e in
         ltb-true _ _ (search (and-l, and-r))
 
-    sum-in : (g i : ℕ) → sourceOk h t lits g i ≡ true → itemKind h t i ≡ 4 → itemIndex h t i < h .counters
+    sum-in : (g i : ℕ) → sourceOk h t g i ≡ true → itemKind h t i ≡ 4 → itemIndex h t i < h .counters
     unfolding sourceOk
     sum-in g i e q =
         let f : sumItemOk h t g (itemIndex h t i) ≡ true = rw q at e in
@@ -102,7 +103,7 @@ module _ (h : Head) (t : List ℕ) where
         (λ b. by-test (eqb k 4) (λ c. omega (arith, eqb-true k 4 c))
         (λ c. let f : (leb 2 k && leb k 3 && w) ≡ true = simp (a, b, c) at e in let n : k ≤ 3 = leb-true _ _ (search (and-l, and-r)) in omega arith)))
 
-    source-kind : (g i : ℕ) → sourceOk h t lits g i ≡ true → itemKind h t i ≤ 4
+    source-kind : (g i : ℕ) → sourceOk h t g i ≡ true → itemKind h t i ≤ 4
     unfolding sourceOk
     source-kind g i e = kind-in (itemKind h t i) _ _ _ _ e
 
@@ -113,12 +114,16 @@ module _ (h : Head) (t : List ℕ) where
     free-one l (suc m) n a w = let z = w m (omega arith) in omega arith
 
     module _ (e : ruleD7 h t lits ≡ true) where
-      item-ok : (g k m : ℕ) → g < h .groups → k < lineCount h t g → m < itemCount h t (firstLine h t g + k) → itemOk h t lits g (firstLine h t g + k) m ≡ true
+      item-ok : (g k m : ℕ) → g < h .groups → k < lineCount h t g → m < itemCount h t (firstLine h t g + k) → itemOk h t g (firstLine h t g + k) m ≡ true
       unfolding ruleD7 groupItemsOk lineItemsOk
       item-ok g k m a b c =
-          let x = all-at (groupItemsOk h t lits) g (h .groups) a (search (and-l, and-r)) in
-          let y = all-at (ownLineOk h t lits g) k (lineCount h t g) b x in
-          all-at (itemOk h t lits g (firstLine h t g + k)) m (itemCount h t (firstLine h t g + k)) c y
+          let x = all-at (groupItemsOk h t) g (h .groups) a (search (and-l, and-r)) in
+          let y = all-at (ownLineOk h t g) k (lineCount h t g) b x in
+          all-at (itemOk h t g (firstLine h t g + k)) m (itemCount h t (firstLine h t g + k)) c y
+
+      literals-there : h .literals ≤ length lits
+      unfolding ruleD7
+      literals-there = printable-there (h .literals) lits (search (and-l, and-r))
 
       item-wide : (g k m : ℕ) → g < h .groups → k < lineCount h t g → m < itemCount h t (firstLine h t g + k) → 1 ≤ itemWidth h t (firstItem h t (firstLine h t g + k) + m)
       unfolding itemOk
@@ -131,12 +136,12 @@ module _ (h : Head) (t : List ℕ) where
           let l = firstLine h t g + k in
           let i = firstItem h t l + m in
           let f : freeColumn h t l m ≤ itemColumn h t i = leb-true _ _ (search (and-l, and-r) depth 8) in
-          let s : sourceOk h t lits g i ≡ true = search (and-l, and-r) depth 8 in
+          let s : sourceOk h t g i ≡ true = search (and-l, and-r) depth 8 in
           record {
             column = let z = free-one l m (itemCount h t l) c (λ j q. item-wide g k j a b q) in omega arith;
             inside = leb-true _ _ (search (and-l, and-r) depth 8);
             kind = source-kind g i s;
-            literal = literal-in g i s;
+            literal = λ q. let z = literal-in g i s q in let n = literals-there in omega arith;
             field = field-in g i s;
             sum = sum-in g i s;
             decimals = leb-true _ _ (search (and-l, and-r) depth 8);

@@ -33,9 +33,9 @@ module _ (h : Head) (t : List ℕ) (i : ℕ) {x : Item} (e : x ≡ itemOf h t i)
   flag-of q = q ∙ ap (λ (r : Item). r .flag) e
 
 module _ (h : Head) (t : List ℕ) (l m : ℕ) {first column width : ℕ} (f : first ≡ firstItem h t l) (c : column ≡ itemColumn h t (first + m)) (w : width ≡ itemWidth h t (first + m)) where
-  pub item-is : (lits : List ℕ) (g : ℕ) {free : ℕ} {placed shown : Bool} → free ≡ freeColumn h t l m → placed ≡ placeOk h free column width → shown ≡ shownOk h t lits g (first + m) → (placed && shown) ≡ itemOk h t lits g l m
+  pub item-is : (g : ℕ) {free : ℕ} {placed shown : Bool} → free ≡ freeColumn h t l m → placed ≡ placeOk h free column width → shown ≡ shownOk h t g (first + m) → (placed && shown) ≡ itemOk h t g l m
   unfolding itemOk
-  item-is lits g e p s = rw (p, s, e, c, w, f) refl
+  item-is g e p s = rw (p, s, e, c, w, f) refl
 
   pub free-next : column + width ≡ freeColumn h t l (m + 1)
   unfolding freeColumn

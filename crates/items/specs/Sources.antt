@@ -3,7 +3,6 @@ use Prim.Native.Nat.{ℕ, _+_}
 use mathlib.Core.Bool.{Bool, cond, _&&_, _||_}
 use mathlib.Core.List.{List}
 use lib.Dec.{leb, ltb, eqb}
-use lib.ListN.{length}
 use Rattle.counts.specs.Below.{firstBelow}
 use Rattle.tables.specs.declared.Head.{Head}
 use Rattle.tables.specs.Table.{fieldKind, control, typeOf, itemWidth, itemKind, itemIndex, itemDecimals, itemFlag, counterGroup}
@@ -29,9 +28,9 @@ sumItemOk h t g k = ltb k (h .counters) && eqb (counterGroup h t k) g
 
 -- "index exists (0 for kinds 2 and 3), for a literal with the item's whole width". Kinds are "0 literal, 1 field, 2 page counter, 3 line counter,
 -- 4 sum"; "An unlisted kind or flag breaks its section's rule".
-unfoldable pub sourceOk : Head → List ℕ → List ℕ → ℕ → ℕ → Bool
-sourceOk h t lits g i =
-    cond (eqb (itemKind h t i) 0) (leb (itemIndex h t i + itemWidth h t i) (length lits))
+unfoldable pub sourceOk : Head → List ℕ → ℕ → ℕ → Bool
+sourceOk h t g i =
+    cond (eqb (itemKind h t i) 0) (leb (itemIndex h t i + itemWidth h t i) (h .literals))
     (cond (eqb (itemKind h t i) 1) (fieldItemOk h t g (itemIndex h t i))
     (cond (eqb (itemKind h t i) 4) (sumItemOk h t g (itemIndex h t i))
     (leb 2 (itemKind h t i) && leb (itemKind h t i) 3 && eqb (itemIndex h t i) 0)))
@@ -49,5 +48,5 @@ unfoldable pub flagOk : Head → List ℕ → ℕ → ℕ → Bool
 flagOk h t g i = eqb (itemFlag h t i) 0 || eqb (itemFlag h t i) 1 && inDetail h t g
 
 -- item i of group g, but for its place on the line
-unfoldable pub shownOk : Head → List ℕ → List ℕ → ℕ → ℕ → Bool
-shownOk h t lits g i = sourceOk h t lits g i && decimalsOk h t i && flagOk h t g i
+unfoldable pub shownOk : Head → List ℕ → ℕ → ℕ → Bool
+shownOk h t g i = sourceOk h t g i && decimalsOk h t i && flagOk h t g i

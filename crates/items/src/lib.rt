@@ -1,12 +1,11 @@
 // D7: the items of every line, and the literal bytes.
 ghost use mathlib.Core.Path.{_≡_};
 ghost use Prim.Native.Nat.{_<_};
-ghost use lib.ListN.{length};
 ghost use Rattle.counts.specs.Below.{allBelow};
 ghost use Rattle.file.specs.Kept.{kept};
 ghost use Rattle.tables.specs.Table.{itemOf};
 ghost use Rattle.items.specs.Sources.{ofControl, fieldItemOk, sourceOk, decimalsOk, flagOk, shownOk};
-ghost use Rattle.items.specs.Items.{placeOk, lineItemsOk, groupItemsOk, literalOk, ruleD7};
+ghost use Rattle.items.specs.Items.{placeOk, lineItemsOk, groupItemsOk, ruleD7};
 use file::Kept;
 use tables::Head;
 use tables::Item;
@@ -39,15 +38,15 @@ fn field_item_ok(t: &[u16], h: Head, g: usize, f: usize) -> bool
 }
 
 // An item's index exists, by its source kind. Here and below `x` is item `i`, read once.
-fn source_ok(t: &[u16], h: Head, lits: &[u8], g: usize, i: usize, x: Item) -> bool
+fn source_ok(t: &[u16], h: Head, g: usize, i: usize, x: Item) -> bool
     requires { ⌜ (g < 65536) × (x ≡ itemOf h (now t) i) ⌝ }
-    ensures { λ r. ⌜ r ≡ sourceOk h (now (t .entry)) (now (lits .entry)) g i ⌝ }
+    ensures { λ r. ⌜ r ≡ sourceOk h (now (t .entry)) g i ⌝ }
 {
     let width = tables::wide(x.width);
     let kind = tables::wide(x.kind);
     let index = tables::wide(x.index);
     match kind {
-        0 => index + width <= lits.len(),
+        0 => index + width <= tables::wide(h.literals),
         1 => field_item_ok(t, h, g, index),
         4 => (index < tables::wide(h.counters)) & (tables::counter_num(t, h, index, 0) == g),
         _ => (2 <= kind) & (kind <= 3) & (index == 0),
@@ -83,11 +82,11 @@ fn flag_ok(t: &[u16], h: Head, g: usize, i: usize, x: Item) -> bool
 }
 
 // What an item shows, wherever it stands on the line.
-fn shown_ok(t: &[u16], h: Head, lits: &[u8], g: usize, i: usize, x: Item) -> bool
+fn shown_ok(t: &[u16], h: Head, g: usize, i: usize, x: Item) -> bool
     requires { ⌜ (g < 65536) × (x ≡ itemOf h (now t) i) ⌝ }
-    ensures { λ r. ⌜ r ≡ shownOk h (now (t .entry)) (now (lits .entry)) g i ⌝ }
+    ensures { λ r. ⌜ r ≡ shownOk h (now (t .entry)) g i ⌝ }
 {
-    source_ok(t, h, lits, g, i, x) & decimals_ok(t, h, i, x) & flag_ok(t, h, g, i, x)
+    source_ok(t, h, g, i, x) & decimals_ok(t, h, i, x) & flag_ok(t, h, g, i, x)
 }
 
 // An item begins at a free column and ends inside the line.
@@ -99,9 +98,9 @@ fn place_ok(h: Head, free: usize, column: usize, width: usize) -> bool
 }
 
 // Every item of line `l`; `free` is the first column that the next item may take.
-fn line_items_ok(t: &[u16], h: Head, lits: &[u8], g: usize, l: usize) -> bool
+fn line_items_ok(t: &[u16], h: Head, g: usize, l: usize) -> bool
     requires { ⌜ (g < 65536) × (l < 1048576) ⌝ }
-    ensures { λ r. ⌜ r ≡ lineItemsOk h (now (t .entry)) (now (lits .entry)) g l ⌝ }
+    ensures { λ r. ⌜ r ≡ lineItemsOk h (now (t .entry)) g l ⌝ }
 {
     let first = tables::line_num(t, h, l, 2);
     let n = tables::line_num(t, h, l, 3);
@@ -114,7 +113,7 @@ fn line_items_ok(t: &[u16], h: Head, lits: &[u8], g: usize, l: usize) -> bool
         let column = tables::wide(x.column);
         let width = tables::wide(x.width);
         let placed = place_ok(h, free, column, width);
-        let shown = shown_ok(t, h, lits, g, i, x);
+        let shown = shown_ok(t, h, g, i, x);
         ok = ok & (placed & shown);
         free = column + width;
         m += 1;
@@ -123,16 +122,16 @@ fn line_items_ok(t: &[u16], h: Head, lits: &[u8], g: usize, l: usize) -> bool
 }
 
 // Every item of a group.
-fn group_items_ok(t: &[u16], h: Head, lits: &[u8], g: usize) -> bool
+fn group_items_ok(t: &[u16], h: Head, g: usize) -> bool
     requires { ⌜ g < 65536 ⌝ }
-    ensures { λ r. ⌜ r ≡ groupItemsOk h (now (t .entry)) (now (lits .entry)) g ⌝ }
+    ensures { λ r. ⌜ r ≡ groupItemsOk h (now (t .entry)) g ⌝ }
 {
     let first = tables::group_num(t, h, g, 2);
     let n = tables::group_num(t, h, g, 3);
     let mut ok = true;
     let mut k = 0;
     while k < n {
-        let this = line_items_ok(t, h, lits, g, first + k);
+        let this = line_items_ok(t, h, g, first + k);
         ok = ok & this;
         k += 1;
     }
@@ -140,31 +139,16 @@ fn group_items_ok(t: &[u16], h: Head, lits: &[u8], g: usize) -> bool
 }
 
 // Every item of every group.
-fn all_items_ok(t: &[u16], h: Head, lits: &[u8]) -> bool
-    ensures { λ r. ⌜ r ≡ allBelow (h .groups) (groupItemsOk h (now (t .entry)) (now (lits .entry))) ⌝ }
+fn all_items_ok(t: &[u16], h: Head) -> bool
+    ensures { λ r. ⌜ r ≡ allBelow (h .groups) (groupItemsOk h (now (t .entry))) ⌝ }
 {
     let n = tables::wide(h.groups);
     let mut ok = true;
     let mut g = 0;
     while g < n {
-        let this = group_items_ok(t, h, lits, g);
+        let this = group_items_ok(t, h, g);
         ok = ok & this;
         g += 1;
-    }
-    ok
-}
-
-// Every literal byte is 32 to 126.
-fn literals_ok(lits: &[u8]) -> bool
-    ensures { λ r. ⌜ r ≡ allBelow (length (now (lits .entry))) (literalOk (now (lits .entry))) ⌝ }
-{
-    let mut ok = true;
-    let mut k = 0;
-    while k < lits.len() {
-        let b = lits[k];
-        let this = (32 <= b) & (b <= 126);
-        ok = ok & this;
-        k += 1;
     }
     ok
 }
@@ -173,6 +157,7 @@ fn literals_ok(lits: &[u8]) -> bool
 pub fn rule_d7(t: &[u16], h: Head, lits: &[u8]) -> Kept
     ensures { λ r. ⌜ r ≡ kept (ruleD7 h (now (t .entry)) (now (lits .entry))) ⌝ }
 {
-    let items = all_items_ok(t, h, lits);
-    file::answer(items & literals_ok(lits))
+    let items = all_items_ok(t, h);
+    let literals = ascii::all_printable(lits, tables::wide(h.literals));
+    file::answer(items & literals)
 }

@@ -1,10 +1,11 @@
 -- The fields of a record: their bytes, and which of them are well formed.
 use Prim.Native.Nat.{ℕ}
-use mathlib.Core.Bool.{Bool, cond, _&&_, not}
+use mathlib.Core.Bool.{Bool, cond, not}
 use mathlib.Core.List.{List}
-use lib.Dec.{leb, eqb}
-use lib.ListN.{length, getD, take, drop}
+use lib.Dec.{eqb}
+use lib.ListN.{length, take, drop}
 use Rattle.counts.specs.Below.{allBelow, firstBelow}
+use Rattle.ascii.specs.Printable.{allPrintable}
 use Rattle.number.specs.Value.{isNumber}
 use Rattle.tables.specs.declared.Head.{Head}
 use Rattle.tables.specs.Table.{fieldKind, fieldOffset, fieldWidth}
@@ -14,14 +15,8 @@ abbrev pub fieldPart : List ℕ → List ℕ → ℕ → List ℕ
 fieldPart t rec i = take (fieldWidth t i) (drop (fieldOffset t i) rec)
 
 -- "Text bytes are 32 to 126."
-abbrev pub textByte : ℕ → Bool
-textByte b = leb 32 b && leb b 126
-
-abbrev pub textAt : List ℕ → ℕ → Bool
-textAt s i = textByte (getD s i 0)
-
 unfoldable pub isText : List ℕ → Bool
-isText s = allBelow (length s) (textAt s)
+isText s = allPrintable (length s) s
 
 -- a number field holds a number, any other text
 unfoldable pub wellFormed : List ℕ → List ℕ → ℕ → Bool

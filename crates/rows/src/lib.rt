@@ -5,7 +5,7 @@ ghost use Prim.Native.Nat.{_≤_, _<_};
 ghost use lib.ListN.{length};
 ghost use Rattle.number.specs.Value.{isNumber, numberOf, Value};
 ghost use Rattle.tables.specs.Table.{fieldKind};
-ghost use Rattle.rows.specs.Fields.{fieldPart, isText, wellFormed, firstMalformed};
+ghost use Rattle.rows.specs.Fields.{fieldPart, wellFormed, firstMalformed};
 ghost use Rattle.rows.specs.Values.{valueOf, sameNumber, sameBytes, sameValue};
 ghost use Rattle.rows.specs.Breaks.{controlDiffers, breakLevel};
 ghost use Rattle.rows.specs.Facts.{Whole, Comparable, PartIn, FieldFormed};
@@ -45,20 +45,6 @@ pub fn field_number(t: &[u16], rec: &[u8], i: usize) -> i64
     parse::number(part(t, rec, i))
 }
 
-fn is_text(s: &[u8]) -> bool
-    ensures { λ r. ⌜ r ≡ isText (now (s .entry)) ⌝ }
-{
-    let mut ok = true;
-    let mut i = 0;
-    while i < s.len() {
-        let b = s[i];
-        let this = (32 <= b) & (b <= 126);
-        ok = ok & this;
-        i += 1;
-    }
-    ok
-}
-
 fn well_formed(t: &[u16], rec: &[u8], i: usize) -> bool
     requires { ⌜ PartIn (now t) (now rec) i ⌝ }
     ensures { λ r. ⌜ r ≡ wellFormed (now (t .entry)) (now (rec .entry)) i ⌝ }
@@ -67,7 +53,8 @@ fn well_formed(t: &[u16], rec: &[u8], i: usize) -> bool
     if kind == 1 {
         parse::is_number(part(t, rec, i))
     } else {
-        is_text(part(t, rec, i))
+        let text = part(t, rec, i);
+        ascii::all_printable(text, text.len())
     }
 }
 

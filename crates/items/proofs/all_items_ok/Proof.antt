@@ -11,10 +11,10 @@ use Rattle.items.proofs.all_items_ok.Statement.{statement}
 use Rattle.items.proofs.all_items_ok.Tie as tie
 
 abbrev Inv-loop : tie.InvT-loop
-Inv-loop t h lits n ok₀ g₀ ok g = (g ≤ n) × (ok ≡ allBelow g (groupItemsOk h t lits))
+Inv-loop t h n ok₀ g₀ ok g = (g ≤ n) × (ok ≡ allBelow g (groupItemsOk h t))
 
 abbrev μ-loop : tie.MeasureT-loop
-μ-loop t h lits n ok₀ g₀ ok g = n - g
+μ-loop t h n ok₀ g₀ ok g = n - g
 
 loop-holds : tie.Need-loop-holds Inv-loop μ-loop
 unfolding allBelow

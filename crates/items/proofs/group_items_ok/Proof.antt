@@ -11,10 +11,10 @@ use Rattle.items.proofs.group_items_ok.Statement.{statement}
 use Rattle.items.proofs.group_items_ok.Tie as tie
 
 abbrev Inv-loop : tie.InvT-loop
-Inv-loop t h lits g first n ok₀ k₀ ok k = (k ≤ n) × (ok ≡ allBelow k (ownLineOk h t lits g))
+Inv-loop t h g first n ok₀ k₀ ok k = (k ≤ n) × (ok ≡ allBelow k (ownLineOk h t g))
 
 abbrev μ-loop : tie.MeasureT-loop
-μ-loop t h lits g first n ok₀ k₀ ok k = n - k
+μ-loop t h g first n ok₀ k₀ ok k = n - k
 
 loop-holds : tie.Need-loop-holds Inv-loop μ-loop
 unfolding allBelow

@@ -12,23 +12,23 @@ use Rattle.items.proofs.line_items_ok.Statement.{statement}
 use Rattle.items.proofs.line_items_ok.Tie as tie
 
 abbrev Inv-loop : tie.InvT-loop
-Inv-loop t h lits g l first n ok₀ free₀ m₀ ok free m =
-    (m ≤ n) × ((ok ≡ allBelow m (itemOk h t lits g l)) × (free ≡ freeColumn h t l m))
+Inv-loop t h g l first n ok₀ free₀ m₀ ok free m =
+    (m ≤ n) × ((ok ≡ allBelow m (itemOk h t g l)) × (free ≡ freeColumn h t l m))
 
 abbrev μ-loop : tie.MeasureT-loop
-μ-loop t h lits g l first n ok₀ free₀ m₀ ok free m = n - m
+μ-loop t h g l first n ok₀ free₀ m₀ ok free m = n - m
 
 loop-holds : tie.Need-loop-holds Inv-loop μ-loop
 unfolding allBelow freeColumn
 loop-holds c = search needs
 
 shown-ok-requires : tie.Need-shown-ok-requires Inv-loop μ-loop
-shown-ok-requires c κs = (c .before .before .before .before .before .before .before .before .before .before .pre .0, c .before .before .before .item-of .ensures)
+shown-ok-requires c κs = (c .before .before .before .before .before .before .before .before .before .pre .0, c .before .before .before .item-of .ensures)
 
 loop-again : tie.Need-loop-again Inv-loop μ-loop
 loop-again c =
     let b = c .before .before .before .before .before .before in
-    let a = b .before .before .before .before .before .args in
+    let a = b .before .before .before .before .args in
     let f = b .before .before .line-num .ensures .is in
     let e = c .before .before .before .before .item-of .ensures in
     let column = column-of (a .h) (a .t .now) _ e (c .before .before .before .wide .ensures .is) in
@@ -36,7 +36,7 @@ loop-again c =
       omega arith,
       (
         all-next _ _ (b .loop .inv .1 .0)
-            (item-is (a .h) (a .t .now) (a .l) (b .loop .m) f column width (a .lits .now) (a .g) (b .loop .inv .1 .1) (c .before .place-ok .ensures) (c .shown-ok .ensures)),
+            (item-is (a .h) (a .t .now) (a .l) (b .loop .m) f column width (a .g) (b .loop .inv .1 .1) (c .before .place-ok .ensures) (c .shown-ok .ensures)),
         free-next (a .h) (a .t .now) (a .l) (b .loop .m) f column width,
       ),
     )

@@ -13,16 +13,16 @@ unfolding sourceOk
 returns c =
     let a = c .before .before .before .before .before .before .args in
     let e = c .before .before .before .before .before .before .pre .1 in
-    let w = width-of (a .h) (a .t .now) (a .i) e (c .before .before .before .wide .ensures .is) in
-    let k = kind-of (a .h) (a .t .now) (a .i) e (c .before .before .wide2 .ensures .is) in
-    let n = index-of (a .h) (a .t .now) (a .i) e (c .before .wide3 .ensures .is) in
-    rw (sym k ∙ c .match .keys1, n, w)
+    let w = width-of (a .h) (a .t .now) (a .i) e (c .before .before .before .before .wide .ensures .is) in
+    let k = kind-of (a .h) (a .t .now) (a .i) e (c .before .before .before .wide2 .ensures .is) in
+    let n = index-of (a .h) (a .t .now) (a .i) e (c .before .before .wide3 .ensures .is) in
+    rw (sym k ∙ c .before .match .keys1, c .wide4 .ensures .is, n, w)
 
 returns-2 : tie.Need-returns-2
 unfolding sourceOk
 returns-2 c =
-    let a = c .before .before .before .before .before .before .before .args in
-    let e = c .before .before .before .before .before .before .before .pre .1 in
+    let a = c .before .before .before .before .before .before .args in
+    let e = c .before .before .before .before .before .before .pre .1 in
     let w = width-of (a .h) (a .t .now) (a .i) e (c .before .before .before .before .wide .ensures .is) in
     let k = kind-of (a .h) (a .t .now) (a .i) e (c .before .before .before .wide2 .ensures .is) in
     let n = index-of (a .h) (a .t .now) (a .i) e (c .before .before .wide3 .ensures .is) in
@@ -31,18 +31,18 @@ returns-2 c =
 returns-3 : tie.Need-returns-3
 unfolding sourceOk
 returns-3 c =
-    let a = c .before .before .before .before .before .before .before .before .args in
-    let e = c .before .before .before .before .before .before .before .before .pre .1 in
+    let a = c .before .before .before .before .before .before .before .args in
+    let e = c .before .before .before .before .before .before .before .pre .1 in
     let w = width-of (a .h) (a .t .now) (a .i) e (c .before .before .before .before .before .wide .ensures .is) in
     let k = kind-of (a .h) (a .t .now) (a .i) e (c .before .before .before .before .wide2 .ensures .is) in
     let n = index-of (a .h) (a .t .now) (a .i) e (c .before .before .before .wide3 .ensures .is) in
-    rw (sym k ∙ c .before .before .match .keys3, c .before .wide4 .ensures .is, c .counter-num .ensures .is, n)
+    rw (sym k ∙ c .before .before .match .keys3, c .before .wide5 .ensures .is, c .counter-num .ensures .is, n)
 
 returns-4 : tie.Need-returns-4
 unfolding sourceOk
 returns-4 c =
-    let a = c .before .before .before .before .before .before .args in
-    let e = c .before .before .before .before .before .before .pre .1 in
+    let a = c .before .before .before .before .before .args in
+    let e = c .before .before .before .before .before .pre .1 in
     let w = width-of (a .h) (a .t .now) (a .i) e (c .before .before .before .wide .ensures .is) in
     let k = kind-of (a .h) (a .t .now) (a .i) e (c .before .before .wide2 .ensures .is) in
     let n = index-of (a .h) (a .t .now) (a .i) e (c .before .wide3 .ensures .is) in
@@ -52,4 +52,4 @@ returns-4 c =
 pub source-ok-spec : {M : Type 1} → statement M
 source-ok-spec =
     tie.close
-    (tie.spec (λ c κs. search needs) (λ c κs. search needs) (λ c κs. search needs) (λ c. search needs) (λ c κs. search needs) (λ c κs. search needs) (λ c κs. search needs) returns returns-2 returns-3 returns-4)
+    (tie.spec (λ c κs. search needs) (λ c κs. search needs) (λ c κs. search needs) (λ c. search needs) (λ c κs. search needs) (λ c κs. search needs) (λ c κs. search needs) (λ c κs. search needs) returns returns-2 returns-3 returns-4)
