@@ -23,7 +23,6 @@ unfolding sourceOk
 returns-2 c =
     let a = c .before .before .before .before .before .before .args in
     let e = c .before .before .before .before .before .before .pre .1 in
-    let w = width-of (a .h) (a .t .now) (a .i) e (c .before .before .before .before .wide .ensures .is) in
     let k = kind-of (a .h) (a .t .now) (a .i) e (c .before .before .before .wide2 .ensures .is) in
     let n = index-of (a .h) (a .t .now) (a .i) e (c .before .before .wide3 .ensures .is) in
     rw (sym k ∙ c .before .match .keys2, c .field-item-ok .ensures, n)
@@ -33,7 +32,6 @@ unfolding sourceOk
 returns-3 c =
     let a = c .before .before .before .before .before .before .before .args in
     let e = c .before .before .before .before .before .before .before .pre .1 in
-    let w = width-of (a .h) (a .t .now) (a .i) e (c .before .before .before .before .before .wide .ensures .is) in
     let k = kind-of (a .h) (a .t .now) (a .i) e (c .before .before .before .before .wide2 .ensures .is) in
     let n = index-of (a .h) (a .t .now) (a .i) e (c .before .before .before .wide3 .ensures .is) in
     rw (sym k ∙ c .before .before .match .keys3, c .before .wide5 .ensures .is, c .counter-num .ensures .is, n)
@@ -43,7 +41,6 @@ unfolding sourceOk
 returns-4 c =
     let a = c .before .before .before .before .before .args in
     let e = c .before .before .before .before .before .pre .1 in
-    let w = width-of (a .h) (a .t .now) (a .i) e (c .before .before .before .wide .ensures .is) in
     let k = kind-of (a .h) (a .t .now) (a .i) e (c .before .before .wide2 .ensures .is) in
     let n = index-of (a .h) (a .t .now) (a .i) e (c .before .wide3 .ensures .is) in
     let r = c .match .rest in
