@@ -2,11 +2,11 @@
 ghost use mathlib.Core.Path.{_≡_};
 ghost use Prim.Native.Nat.{_<_};
 ghost use Rattle.counts.specs.Below.{allBelow};
-ghost use Rattle.file.specs.Kept.{kept};
+ghost use Rattle.file.specs.Rule.{ruled};
 ghost use Rattle.file.specs.Number.{Reads};
 ghost use Rattle.counters.specs.Addends.{maskOk, fieldAddendOk, counterLevel, feeds, counterAddendOk, addendOk};
 ghost use Rattle.counters.specs.Counters.{footingOk, newAddend, addendsOk, counterOk, ruleD8};
-use file::Kept;
+use file::Rule;
 use tables::Head;
 
 // A mask names at least one of `d` details and nothing else. It has 16 bits, so more details than 16 are the same to it.
@@ -141,13 +141,13 @@ fn counters_ok(t: &[u16], h: Head, d: usize) -> bool
 }
 
 // D8.
-pub fn rule_d8(t: &[u16], h: Head) -> Kept
-    ensures { λ r. ⌜ r ≡ kept (ruleD8 h (now (t .entry))) ⌝ }
+pub fn rule_d8(t: &[u16], h: Head) -> Rule
+    ensures { λ r. ⌜ r ≡ ruled (ruleD8 h (now (t .entry))) ⌝ }
 {
     let at = tables::wide(h.kstart);
     let n = tables::wide(h.counters);
     let addends = tables::wide(h.addends);
     let d = lookup::details_of(t, h);
     let each = counters_ok(t, h, d);
-    file::answer(each & lookup::shared_out(t, at, 4, n, addends))
+    file::rule_of(each & lookup::shared_out(t, at, 4, n, addends))
 }

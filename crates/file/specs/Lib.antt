@@ -3,4 +3,4 @@ pub mod Version
 pub mod Number
 pub mod Trailer
 pub mod Sections
-pub mod Kept
+pub mod Rule

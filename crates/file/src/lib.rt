@@ -7,18 +7,18 @@ ghost use Rattle.file.specs.Version.{entrySize, entryLimit, trailerSize,
 ghost use Rattle.file.specs.Number.{num, Reads};
 ghost use Rattle.file.specs.Trailer.{version as versionSpec, trailer, start, count, setting};
 ghost use Rattle.file.specs.Sections.{sectionEnd, nextStart, sectionOk, ruleD1};
-ghost use Rattle.file.specs.Kept.{kept};
+ghost use Rattle.file.specs.Rule.{ruled};
 
 // The answer of one rule.
-pub enum Kept {
-    Yes,
-    No,
+pub enum Rule {
+    Passed,
+    Broken,
 }
 
-pub fn answer(ok: bool) -> Kept
-    ensures { λ r. ⌜ r ≡ kept ok ⌝ }
+pub fn rule_of(ok: bool) -> Rule
+    ensures { λ r. ⌜ r ≡ ruled ok ⌝ }
 {
-    if ok { Kept::Yes } else { Kept::No }
+    if ok { Rule::Passed } else { Rule::Broken }
 }
 
 // A number, of its low and its high byte.
@@ -135,11 +135,11 @@ fn sections_ok(d: &[u8]) -> bool
     ok
 }
 
-pub fn rule_d1(d: &[u8]) -> Kept
-    ensures { λ r. ⌜ r ≡ kept (ruleD1 (now (d .entry))) ⌝ }
+pub fn rule_d1(d: &[u8]) -> Rule
+    ensures { λ r. ⌜ r ≡ ruled (ruleD1 (now (d .entry))) ⌝ }
 {
     if d.len() < 48 {
-        return answer(false);
+        return rule_of(false);
     }
-    answer((version(d) == 1) & (start_of(d, 0) == 0) & sections_ok(d))
+    rule_of((version(d) == 1) & (start_of(d, 0) == 0) & sections_ok(d))
 }

@@ -3,11 +3,11 @@ ghost use mathlib.Core.Path.{_≡_};
 ghost use Prim.Native.Nat.{_+_, _<_};
 ghost use Rattle.counts.specs.Below.{allBelow};
 ghost use Rattle.file.specs.Number.{Reads};
-ghost use Rattle.file.specs.Kept.{kept};
+ghost use Rattle.file.specs.Rule.{ruled};
 ghost use Rattle.lines.specs.Bounded.{Bounded};
 ghost use Rattle.fits.specs.Starts.{startFrom, present, lastFrom, aboveHead, headEnd, footEnd};
 ghost use Rattle.fits.specs.Fits.{bodyFits, headFits, footFits, fits, linesOk, ruleD6};
-use file::Kept;
+use file::Rule;
 use tables::Head;
 
 // The first line of the heading or footing `i`, counted from the line `above`.
@@ -159,11 +159,11 @@ fn all_lines_ok(t: &[u16], h: Head) -> bool
     ok
 }
 
-pub fn rule_d6(t: &[u16], h: Head) -> Kept
-    ensures { λ r. ⌜ r ≡ kept (ruleD6 h (now (t .entry))) ⌝ }
+pub fn rule_d6(t: &[u16], h: Head) -> Rule
+    ensures { λ r. ⌜ r ≡ ruled (ruleD6 h (now (t .entry))) ⌝ }
 {
     let at = tables::wide(h.lstart);
     let n = tables::wide(h.lines);
     let items = tables::wide(h.items);
-    file::answer(all_lines_ok(t, h) & lookup::shared_out(t, at, 4, n, items))
+    file::rule_of(all_lines_ok(t, h) & lookup::shared_out(t, at, 4, n, items))
 }

@@ -2,9 +2,9 @@
 ghost use mathlib.Core.Path.{_≡_};
 ghost use Prim.Native.Nat.{_<_};
 ghost use Rattle.counts.specs.Below.{allBelow};
-ghost use Rattle.file.specs.Kept.{kept};
+ghost use Rattle.file.specs.Rule.{ruled};
 ghost use Rattle.groups.specs.Groups.{numbersOk, alone, groupOk, ruleD5};
-use file::Kept;
+use file::Rule;
 use tables::Head;
 
 // The type, level and next group of group `i`.
@@ -56,14 +56,14 @@ fn groups_ok(t: &[u16], h: Head) -> bool
     ok
 }
 
-pub fn rule_d5(t: &[u16], h: Head) -> Kept
-    ensures { λ r. ⌜ r ≡ kept (ruleD5 h (now (t .entry))) ⌝ }
+pub fn rule_d5(t: &[u16], h: Head) -> Rule
+    ensures { λ r. ⌜ r ≡ ruled (ruleD5 h (now (t .entry))) ⌝ }
 {
     let at = tables::wide(h.gstart);
     let n = tables::wide(h.groups);
     let lines = tables::wide(h.lines);
     let found = lookup::details_of(t, h);
-    file::answer(
+    file::rule_of(
         groups_ok(t, h) & (1 <= found) & (found <= 8) & lookup::shared_out(t, at, 6, n, lines),
     )
 }

@@ -7,7 +7,7 @@ use Rattle.fields.proofs.rule_d2.Tie as tie
 
 returns : tie.Need-returns
 unfolding ruleD2
-returns c = c .answer .ensures
+returns c = c .rule-of .ensures
 
 pub rule-d2-spec : {M : Type 1} → statement M
 rule-d2-spec = tie.close (tie.spec (λ c κs. search needs) returns)
