@@ -13,7 +13,8 @@ use borrow.Author.Tests.{leb-true, ltb-true, ltb-false, eqb-true, eqb-false, eq-
 use Rattle.counts.specs.Below.{bit, allBelow, sumBelow, firstBelow}
 use Rattle.counts.proofs.Laws.{and-l, and-r, or-r, when-at, all-at, sum-part, first-at, first-upto}
 use Rattle.tables.specs.declared.Head.{Head}
-use Rattle.tables.specs.Table.{numberOf, typeOf, levelOf, firstLine, lineCount, firstItem, itemCount}
+use Rattle.tables.specs.Section.{groupSection, lineSection, countOf, entry}
+use Rattle.tables.specs.Table.{typeOf, levelOf, firstLine, lineCount, firstItem, itemCount}
 use Rattle.lookup.specs.Shared.{share, begins, sharedOut}
 use Rattle.lookup.specs.Find.{isAt, theGroup, isDetail, theDetail, detailBit, details}
 use Rattle.groups.specs.Groups.{numbersOk, alone, groupOk, ruleD5}
@@ -22,12 +23,12 @@ use Rattle.fits.specs.Starts.{present}
 use Rattle.fits.specs.Fits.{linesOk, fits, ruleD6}
 
 -- an entry's share lies inside the next section
-pub shared-inside : (t : List ℕ) (at size n whole i : ℕ) → sharedOut t at size n whole ≡ true → i < n → numberOf t at size i 2 + numberOf t at size i 3 ≤ whole
+pub shared-inside : (h : Head) (t : List ℕ) (k i : ℕ) → sharedOut h t k ≡ true → i < countOf h k → entry h t k i 2 + entry h t k i 3 ≤ countOf h (k + 1)
 unfolding sharedOut
-shared-inside t at size n whole i e h =
-    let b : numberOf t at size i 2 ≡ sumBelow i (share t at size) = eqb-true _ _ (all-at (begins t at size) i n h (search (and-l, and-r))) in
-    let w : sumBelow n (share t at size) ≡ whole = eqb-true _ _ (search (and-l, and-r)) in
-    let p = sum-part (share t at size) i n h in
+shared-inside h t k i e l =
+    let b : entry h t k i 2 ≡ sumBelow i (share h t k) = eqb-true _ _ (all-at (begins h t k) i (countOf h k) l (search (and-l, and-r))) in
+    let w : sumBelow (countOf h k) (share h t k) ≡ countOf h (k + 1) = eqb-true _ _ (search (and-l, and-r)) in
+    let p = sum-part (share h t k) i (countOf h k) l in
     omega arith
 
 by-less : (a b : ℕ) (x : Bool) → ltb a b ≡ x → (a < b) ⊎ (b ≤ a)
@@ -59,7 +60,7 @@ module _ (h : Head) (t : List ℕ) (e : ruleD5 h t ≡ true) where
   -- a group's lines lie inside the line section
   pub lines-inside : (i : ℕ) → i < h .groups → firstLine h t i + lineCount h t i ≤ h .lines
   unfolding ruleD5
-  lines-inside i l = shared-inside t (h .gstart) 6 (h .groups) (h .lines) i (search (and-l, and-r) depth 8) l
+  lines-inside i l = shared-inside h t groupSection i (search (and-l, and-r) depth 8) l
 
   pub type-listed : (i : ℕ) → i < h .groups → typeOf h t i ≤ 6
   unfolding numbersOk
@@ -106,7 +107,7 @@ module _ (h : Head) (t : List ℕ) (e : ruleD6 h t ≡ true) where
   -- a line's items lie inside the item section
   pub items-inside : (l : ℕ) → l < h .lines → firstItem h t l + itemCount h t l ≤ h .items
   unfolding ruleD6
-  items-inside l b = shared-inside t (h .lstart) 4 (h .lines) (h .items) l (search (and-l, and-r) depth 8) b
+  items-inside l b = shared-inside h t lineSection l (search (and-l, and-r) depth 8) b
 
   -- what is tested of a group with lines
   pub record Lined (i : ℕ) : Type 0 where

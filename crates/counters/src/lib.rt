@@ -25,7 +25,9 @@ fn field_addend_ok(t: &[u16], h: Head, d: usize, a: usize) -> bool
 {
     let index = tables::addend_num(t, h, a, 1);
     let mask = tables::addend_num(t, h, a, 2);
-    (index < tables::wide(h.fields)) & (tables::field_num(t, index, 0) == 1) & mask_ok(d, mask)
+    (index < tables::wide(h.fields))
+        & (tables::field_num(t, index, 0) == tables::FIELD_NUMBER)
+        & mask_ok(d, mask)
 }
 
 // The level of a counter's group.
@@ -63,8 +65,8 @@ fn addend_ok(t: &[u16], h: Head, d: usize, k: usize, a: usize) -> bool
 {
     let kind = tables::addend_num(t, h, a, 0);
     match kind {
-        0 => field_addend_ok(t, h, d, a),
-        1 => counter_addend_ok(t, h, k, a),
+        tables::ADDEND_FIELD => field_addend_ok(t, h, d, a),
+        tables::ADDEND_COUNTER => counter_addend_ok(t, h, k, a),
         _ => false,
     }
 }
@@ -121,7 +123,7 @@ fn footing_ok(t: &[u16], h: Head, k: usize) -> bool
 {
     let g = tables::counter_num(t, h, k, 0);
     let reset = tables::counter_num(t, h, k, 1);
-    let cf = tables::group_num(t, h, g, 0) == 4;
+    let cf = tables::group_num(t, h, g, 0) == tables::CF;
     (g < tables::wide(h.groups)) & cf & (reset <= tables::group_num(t, h, g, 1))
 }
 
@@ -144,10 +146,7 @@ fn counters_ok(t: &[u16], h: Head, d: usize) -> bool
 pub fn rule_d8(t: &[u16], h: Head) -> Rule
     ensures { λ r. ⌜ r ≡ ruled (ruleD8 h (now (t .entry))) ⌝ }
 {
-    let at = tables::wide(h.kstart);
-    let n = tables::wide(h.counters);
-    let addends = tables::wide(h.addends);
     let d = lookup::details_of(t, h);
     let each = counters_ok(t, h, d);
-    file::rule_of(each & lookup::shared_out(t, at, 4, n, addends))
+    file::rule_of(each & lookup::shared_out(t, h, tables::COUNTERS))
 }

@@ -92,7 +92,7 @@ pub fn check(d: &[u8]) -> Checked
     let Rule::Passed = file::rule_d1(d) else {
         return Checked::Broken(1);
     };
-    let mut t = [tables::UNSET; 4392];
+    let mut t = [tables::UNSET; tables::NUMBERS_MAX];
     let n = tables::numbers_of(d);
     check_in(d, &mut t[..n])
 }

@@ -12,6 +12,11 @@ use tables::Head;
 pub fn rule_d2(h: Head) -> Rule
     ensures { λ r. ⌜ r ≡ ruled (ruleD2 h) ⌝ }
 {
+    let v = tables::wide(h.version);
+    let widest = file::widest_line(v);
+    let longest = file::longest_record(v);
+    let width = tables::wide(h.width);
+    let length = tables::wide(h.reclen);
     file::rule_of(
         (1 <= h.top)
             & (h.top <= h.fd)
@@ -19,10 +24,10 @@ pub fn rule_d2(h: Head) -> Rule
             & (h.ld <= h.ft)
             & (h.ft <= h.page)
             & (h.page <= 999)
-            & (1 <= h.width)
-            & (h.width <= 132)
-            & (1 <= h.reclen)
-            & (h.reclen <= 256),
+            & (1 <= width)
+            & (width <= widest)
+            & (1 <= length)
+            & (length <= longest),
     )
 }
 
@@ -36,7 +41,8 @@ fn field_ok(t: &[u16], h: Head, i: usize) -> bool
     let width = tables::field_num(t, i, 2);
     let length = tables::wide(h.reclen);
     (offset + width <= length)
-        & ((kind == 0) & (1 <= width) & (width <= 64) | (kind == 1) & (2 <= width) & (width <= 18))
+        & ((kind == tables::FIELD_TEXT) & (1 <= width) & (width <= 64)
+            | (kind == tables::FIELD_NUMBER) & (2 <= width) & (width <= 18))
 }
 
 pub fn rule_d3(t: &[u16], h: Head) -> Rule
@@ -75,7 +81,7 @@ fn control_ok(t: &[u16], h: Head, i: usize) -> bool
 {
     let index = tables::control_num(t, h, i);
     let fields = tables::wide(h.fields);
-    ((index == 65535) & (i == 0) | (index < fields)) & differs_from_earlier(t, h, i, index)
+    ((index == tables::FINAL) & (i == 0) | (index < fields)) & differs_from_earlier(t, h, i, index)
 }
 
 pub fn rule_d4(t: &[u16], h: Head) -> Rule
