@@ -1,8 +1,8 @@
 -- An accepted description keeps every rule, and so has every fact.
 -- Assumes nothing.
-use Prim.Native.Nat.{ℕ, _+_, _≤_, _<_}
-use mathlib.Core.Path.{_≡_, refl, sym, _∙_}
-use mathlib.Core.Bool.{Bool, true, false, _&&_}
+use Prim.Native.Nat.{ℕ, _≤_}
+use mathlib.Core.Path.{_≡_, refl}
+use mathlib.Core.Bool.{Bool, true, false}
 use mathlib.Core.List.{List}
 use native.Mathlib.Omega.{arith}
 use borrow.Author.Tests.{leb-true}
@@ -21,7 +21,7 @@ use Rattle.fits.specs.Fits.{ruleD6}
 use Rattle.items.specs.Items.{ruleD7}
 use Rattle.counters.specs.Counters.{ruleD8}
 use Rattle.description.specs.declared.Checked.{Checked}
-use Rattle.description.specs.declared.Checked.the-variants.{Accepted, Broken}
+use Rattle.description.specs.declared.Checked.the-variants.{Accepted}
 use Rattle.description.specs.Check.{after, from3, from4, from5, from6, from7, from8, judged, checked}
 use Rattle.accepted.specs.Accepted as facts
 use Rattle.accepted.proofs.Index.{details-few}

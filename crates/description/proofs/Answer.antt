@@ -1,6 +1,6 @@
 -- What CHECK's answer says: the first broken rule is 1 to 8, 0 means accepted; the literals of a description that passes D1 lie inside it.
 -- Assumes nothing.
-use Prim.Native.Nat.{ℕ, _+_, _*_, _≤_}
+use Prim.Native.Nat.{ℕ, _≤_}
 use mathlib.Core.Path.{_≡_, refl, sym, _∙_, ap}
 use mathlib.Core.Bool.{Bool, true, false}
 use mathlib.Core.List.{List}

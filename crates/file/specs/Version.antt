@@ -1,7 +1,7 @@
 -- What a version of the description file sets: sections, trailer, entry sizes and limits. There is one version so far, so only `known` looks at it.
 use Prim.Native.Nat.{ℕ, _+_, _*_}
 use mathlib.Core.Bool.{Bool}
-use mathlib.Core.List.{List, [], _∷_}
+use mathlib.Core.List.{[], _∷_}
 use lib.Dec.{eqb}
 use lib.ListN.{getD}
 use Rattle.file.specs.Limits.{lineMax, recordMax, controlsMax, groupsMax, countersMax}

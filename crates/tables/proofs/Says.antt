@@ -1,8 +1,8 @@
 -- The tables say what the bytes say, once over all sections: where D1 is passed, every number of every entry is the same in both.
 -- Assumes nothing.
 use Prim.Native.Nat.{ℕ, zero, suc, _+_, _*_, _≤_, _<_}
-use mathlib.Core.Path.{_≡_, refl, sym, _∙_, ap}
-use mathlib.Core.Bool.{Bool, true, _&&_}
+use mathlib.Core.Path.{_≡_, refl, _∙_, ap}
+use mathlib.Core.Bool.{true, _&&_}
 use mathlib.Core.List.{List}
 use native.Mathlib.Nat.{mul-comm, mul-assoc, mul-left-comm, mul-add, mul-le-mul-left}
 use native.Mathlib.Numerals.{add-one}

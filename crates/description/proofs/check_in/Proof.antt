@@ -1,6 +1,5 @@
 -- `description::check_in` meets its contract: the tables' answer.
 -- Assumes nothing.
-use mathlib.Core.Path.{_≡_}
 use borrow.Author.Needs.{needs}
 use Rattle.tables.proofs.Says.{numbers-in}
 use Rattle.description.proofs.Answer.{d1-passed, literals-in}

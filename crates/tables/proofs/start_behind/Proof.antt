@@ -1,7 +1,7 @@
 -- `tables::start_behind` meets its contract: by D1 no section reaches past the most numbers of a table.
 -- Assumes nothing.
 use Prim.Native.Nat.{_+_, _*_, _≤_}
-use mathlib.Core.Path.{_≡_, sym, _∙_}
+use mathlib.Core.Path.{sym}
 use native.Mathlib.Omega.{arith}
 use borrow.Author.Needs.{needs}
 use Rattle.tables.proofs.Says.{long, start-next, start-small}
