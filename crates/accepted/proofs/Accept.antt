@@ -1,12 +1,13 @@
 -- An accepted description keeps every rule, and so has every fact.
 -- Assumes nothing.
-use Prim.Native.Nat.{ℕ, _+_, _≤_, _<_}
-use mathlib.Core.Path.{_≡_, refl, sym, _∙_}
-use mathlib.Core.Bool.{Bool, true, false, _&&_}
+use Prim.Native.Nat.{ℕ, _≤_}
+use mathlib.Core.Path.{_≡_, refl}
+use mathlib.Core.Bool.{Bool, true, false}
 use mathlib.Core.List.{List}
 use native.Mathlib.Omega.{arith}
 use borrow.Author.Tests.{leb-true}
 use Rattle.counts.proofs.Laws.{and-l, and-r}
+use Rattle.file.specs.Rule.{ruled}
 use Rattle.file.specs.Sections.{ruleD1}
 use Rattle.tables.specs.declared.Head.{Head}
 use Rattle.tables.specs.Head.{headOf}
@@ -20,23 +21,25 @@ use Rattle.fits.specs.Fits.{ruleD6}
 use Rattle.items.specs.Items.{ruleD7}
 use Rattle.counters.specs.Counters.{ruleD8}
 use Rattle.description.specs.declared.Checked.{Checked}
-use Rattle.description.specs.declared.Checked.the-variants.{Accepted, Broken}
+use Rattle.description.specs.declared.Checked.the-variants.{Accepted}
 use Rattle.description.specs.Check.{after, from3, from4, from5, from6, from7, from8, judged, checked}
 use Rattle.accepted.specs.Accepted as facts
 use Rattle.accepted.proofs.Index.{details-few}
 use Rattle.accepted.proofs.Page.{small, page-fits}
 use Rattle.accepted.proofs.Entries.{fields-in, controls-in, counters-in, items-in}
 
-kept-rule : (k : ℕ) (b : Bool) (rest : Checked) → after k b rest ≡ Accepted → b ≡ true
-kept-rule k true rest e = refl
-kept-rule k false rest e = let z : _≡_ {A = ℕ} 0 1 = cc in absurd (omega arith)
+rule-passed : (k : ℕ) (b : Bool) (rest : Checked) → after k (ruled b) rest ≡ Accepted → b ≡ true
+unfolding ruled
+rule-passed k true rest e = refl
+rule-passed k false rest e = let z : _≡_ {A = ℕ} 0 1 = cc in absurd (omega arith)
 
-kept-rest : (k : ℕ) (b : Bool) (rest : Checked) → after k b rest ≡ Accepted → rest ≡ Accepted
-kept-rest k true rest e = e
-kept-rest k false rest e = let z : _≡_ {A = ℕ} 0 1 = cc in absurd (omega arith)
+rest-passed : (k : ℕ) (b : Bool) (rest : Checked) → after k (ruled b) rest ≡ Accepted → rest ≡ Accepted
+unfolding ruled
+rest-passed k true rest e = e
+rest-passed k false rest e = let z : _≡_ {A = ℕ} 0 1 = cc in absurd (omega arith)
 
--- the rules that the tables keep
-pub record Kept (h : Head) (t lits : List ℕ) : Type 0 where
+-- the rules that the tables pass
+pub record Passes (h : Head) (t lits : List ℕ) : Type 0 where
   pub d2 : ruleD2 h ≡ true
   pub d3 : ruleD3 h t ≡ true
   pub d4 : ruleD4 h t ≡ true
@@ -45,35 +48,35 @@ pub record Kept (h : Head) (t lits : List ℕ) : Type 0 where
   pub d7 : ruleD7 h t lits ≡ true
   pub d8 : ruleD8 h t ≡ true
 
-pub judged-kept : (h : Head) (t lits : List ℕ) → judged h t lits ≡ Accepted → Kept h t lits
+pub judged-passes : (h : Head) (t lits : List ℕ) → judged h t lits ≡ Accepted → Passes h t lits
 unfolding judged from3 from4 from5 from6 from7 from8
-judged-kept h t lits e =
-    let e3 = kept-rest 2 (ruleD2 h) (from3 h t lits) e in
-    let e4 = kept-rest 3 (ruleD3 h t) (from4 h t lits) e3 in
-    let e5 = kept-rest 4 (ruleD4 h t) (from5 h t lits) e4 in
-    let e6 = kept-rest 5 (ruleD5 h t) (from6 h t lits) e5 in
-    let e7 = kept-rest 6 (ruleD6 h t) (from7 h t lits) e6 in
-    let e8 = kept-rest 7 (ruleD7 h t lits) (from8 h t) e7 in
+judged-passes h t lits e =
+    let e3 = rest-passed 2 (ruleD2 h) (from3 h t lits) e in
+    let e4 = rest-passed 3 (ruleD3 h t) (from4 h t lits) e3 in
+    let e5 = rest-passed 4 (ruleD4 h t) (from5 h t lits) e4 in
+    let e6 = rest-passed 5 (ruleD5 h t) (from6 h t lits) e5 in
+    let e7 = rest-passed 6 (ruleD6 h t) (from7 h t lits) e6 in
+    let e8 = rest-passed 7 (ruleD7 h t lits) (from8 h t) e7 in
     record {
-      d2 = kept-rule 2 (ruleD2 h) (from3 h t lits) e;
-      d3 = kept-rule 3 (ruleD3 h t) (from4 h t lits) e3;
-      d4 = kept-rule 4 (ruleD4 h t) (from5 h t lits) e4;
-      d5 = kept-rule 5 (ruleD5 h t) (from6 h t lits) e5;
-      d6 = kept-rule 6 (ruleD6 h t) (from7 h t lits) e6;
-      d7 = kept-rule 7 (ruleD7 h t lits) (from8 h t) e7;
-      d8 = kept-rule 8 (ruleD8 h t) Accepted e8;
+      d2 = rule-passed 2 (ruleD2 h) (from3 h t lits) e;
+      d3 = rule-passed 3 (ruleD3 h t) (from4 h t lits) e3;
+      d4 = rule-passed 4 (ruleD4 h t) (from5 h t lits) e4;
+      d5 = rule-passed 5 (ruleD5 h t) (from6 h t lits) e5;
+      d6 = rule-passed 6 (ruleD6 h t) (from7 h t lits) e6;
+      d7 = rule-passed 7 (ruleD7 h t lits) (from8 h t) e7;
+      d8 = rule-passed 8 (ruleD8 h t) Accepted e8;
     }
 
 pub checked-d1 : (d : List ℕ) → checked d ≡ Accepted → ruleD1 d ≡ true
 unfolding checked
-checked-d1 d e = kept-rule 1 (ruleD1 d) (judged (headOf d) (table d) (literals d)) e
+checked-d1 d e = rule-passed 1 (ruleD1 d) (judged (headOf d) (table d) (literals d)) e
 
 pub checked-judged : (d : List ℕ) → checked d ≡ Accepted → judged (headOf d) (table d) (literals d) ≡ Accepted
 unfolding checked
-checked-judged d e = kept-rest 1 (ruleD1 d) (judged (headOf d) (table d) (literals d)) e
+checked-judged d e = rest-passed 1 (ruleD1 d) (judged (headOf d) (table d) (literals d)) e
 
 -- from the rules of the tables, with D1's limits
-pub rules-give : (h : Head) (t lits : List ℕ) → h .controls ≤ 8 → h .groups ≤ 32 → h .counters ≤ 32 → Kept h t lits → facts.Accepted h t lits
+pub rules-give : (h : Head) (t lits : List ℕ) → h .controls ≤ 8 → h .groups ≤ 32 → h .counters ≤ 32 → Passes h t lits → facts.Accepted h t lits
 unfolding ruleD2
 rules-give h t lits c g k r =
     let e2 = r .d2 in
@@ -101,4 +104,4 @@ pub accepted : (d : List ℕ) → checked d ≡ Accepted → facts.Accepted (hea
 accepted d e =
     let o = checked-d1 d e in
     rules-give (headOf d) (table d) (literals d) (counted d o 1 (omega arith)) (counted d o 2 (omega arith)) (counted d o 5 (omega arith))
-    (judged-kept (headOf d) (table d) (literals d) (checked-judged d e))
+    (judged-passes (headOf d) (table d) (literals d) (checked-judged d e))

@@ -1,7 +1,7 @@
 -- D2, D5 and D6 give the facts of the page.
 -- Assumes nothing.
 use Prim.Native.Nat.{ℕ, zero, suc, _+_, _-_, _*_, _≤_, _<_}
-use mathlib.Core.Path.{_≡_, refl, sym, ap, _∙_}
+use mathlib.Core.Path.{_≡_, refl, sym}
 use mathlib.Core.Bool.{Bool, true, false, cond, _&&_, _||_, not, false≢true}
 use mathlib.Core.List.{List}
 use mathlib.Core.Logic.{⊎-elim}
@@ -9,18 +9,16 @@ use native.Mathlib.Nat.{mul-suc, eq-or-lt-of-le}
 use native.Mathlib.Omega.{arith}
 use lib.Dec.{leb, ltb, eqb}
 use borrow.Author.Tests.{leb-true, ltb-true, eqb-true, eqb-false, eq-eqb, ne-eqb, le-leb}
-use Rattle.counts.specs.Below.{allBelow, sumBelow}
-use Rattle.counts.proofs.Laws.{by-test, by-cond, and-l, and-r, or-r, all-at}
+use Rattle.counts.specs.Below.{sumBelow}
+use Rattle.counts.proofs.Laws.{by-test, by-cond, and-l, and-r, all-at}
 use Rattle.tables.specs.declared.Head.{Head}
-use Rattle.tables.specs.Table.{typeOf, lineCount, lineInt, lineKind, nextKind, nextBy}
-use Rattle.lookup.specs.Find.{theGroup}
+use Rattle.tables.specs.Table.{typeOf, lineCount, nextKind, nextBy}
 use Rattle.fields.specs.Page.{ruleD2}
-use Rattle.groups.specs.Groups.{numbersOk, groupOk, ruleD5}
-use Rattle.lines.specs.Lines.{kindOf, firstInt, later, laterLine, step, span, stepOk, laterOk, kindOk, firstOk}
+use Rattle.groups.specs.Groups.{numbersOk, ruleD5}
+use Rattle.lines.specs.Lines.{kindOf, firstInt, later, step, span, stepOk, laterOk, firstOk}
 use Rattle.fits.specs.Starts.{startFrom, present, lastFrom, aboveHead, headEnd, footEnd}
-use Rattle.fits.specs.Fits.{bodyStart, bodyFits, headFits, footFits, fits, linesOk, ruleD6}
+use Rattle.fits.specs.Fits.{bodyFits, headFits, footFits, fits, ruleD6}
 use Rattle.place.specs.declared.Frame.{Frame}
-use Rattle.place.specs.declared.Next.{Next}
 use Rattle.place.specs.Rules.{FitsPart, Described, NextIn}
 use Rattle.shape.specs.Shape.{asFirst, asNext, lowOf, bodyOf, nextOf, headLine, frameOf}
 use Rattle.shape.specs.Facts.{Small}

@@ -4,6 +4,7 @@ use mathlib.Core.Bool.{Bool, cond, _&&_, _||_}
 use mathlib.Core.List.{List}
 use lib.Dec.{leb, ltb, eqb}
 use Rattle.tables.specs.declared.Head.{Head}
+use Rattle.tables.specs.Kinds.{fieldNumber, addendField, addendCounter}
 use Rattle.tables.specs.Table.{fieldKind, levelOf, counterGroup, addendKind, addendIndex, addendMask}
 
 -- "mask nonzero and naming details only": a mask has "bit i for detail i", and there are d details
@@ -13,7 +14,7 @@ maskOk d mask = leb 1 mask && ltb mask (2 ^ d)
 -- "Field addends: number fields, mask nonzero and naming details only."
 unfoldable pub fieldAddendOk : Head → List ℕ → ℕ → ℕ → Bool
 fieldAddendOk h t d a =
-    ltb (addendIndex h t a) (h .fields) && eqb (fieldKind t (addendIndex h t a)) 1 && maskOk d (addendMask h t a)
+    ltb (addendIndex h t a) (h .fields) && eqb (fieldKind t (addendIndex h t a)) fieldNumber && maskOk d (addendMask h t a)
 
 -- the level of counter k's group
 abbrev pub counterLevel : Head → List ℕ → ℕ → ℕ
@@ -30,6 +31,6 @@ unfoldable pub counterAddendOk : Head → List ℕ → ℕ → ℕ → Bool
 counterAddendOk h t k a =
     eqb (addendMask h t a) 0 && ltb (addendIndex h t a) (h .counters) && feeds h t k (addendIndex h t a)
 
--- addend a of counter k. Kinds are "0 field, 1 counter"; "An unlisted kind or flag breaks its section's rule".
+-- addend a of counter k. "An unlisted kind or flag breaks its section's rule".
 unfoldable pub addendOk : Head → List ℕ → ℕ → ℕ → ℕ → Bool
-addendOk h t d k a = cond (eqb (addendKind h t a) 0) (fieldAddendOk h t d a) (eqb (addendKind h t a) 1 && counterAddendOk h t k a)
+addendOk h t d k a = cond (eqb (addendKind h t a) addendField) (fieldAddendOk h t d a) (eqb (addendKind h t a) addendCounter && counterAddendOk h t k a)

@@ -5,15 +5,17 @@ use mathlib.Core.List.{List}
 use lib.Dec.{leb, ltb, eqb}
 use Rattle.counts.specs.Below.{allBelow}
 use Rattle.tables.specs.declared.Head.{Head}
+use Rattle.tables.specs.Kinds.{typeCF}
+use Rattle.tables.specs.Section.{counterSection}
 use Rattle.tables.specs.Table.{typeOf, counterGroup, resetLevel, firstAddend, addendCount, addendKind, addendIndex}
 use Rattle.lookup.specs.Shared.{sharedOut}
 use Rattle.lookup.specs.Find.{details}
 use Rattle.counters.specs.Addends.{counterLevel, addendOk}
 
--- "group is a CF; reset level no greater than its group's" (CF is type 4)
+-- "group is a CF; reset level no greater than its group's"
 unfoldable pub footingOk : Head → List ℕ → ℕ → Bool
 footingOk h t k =
-    ltb (counterGroup h t k) (h .groups) && eqb (typeOf h t (counterGroup h t k)) 4 && leb (resetLevel h t k) (counterLevel h t k)
+    ltb (counterGroup h t k) (h .groups) && eqb (typeOf h t (counterGroup h t k)) typeCF && leb (resetLevel h t k) (counterLevel h t k)
 
 -- "none with the same kind and index twice": addend b has another kind or index than addend a
 abbrev pub unlike : Head → List ℕ → ℕ → ℕ → Bool
@@ -40,4 +42,4 @@ counterOk h t d k = footingOk h t k && addendsOk h t d k
 
 -- "1 to 8 addends, .., shared out in order"
 unfoldable pub ruleD8 : Head → List ℕ → Bool
-ruleD8 h t = allBelow (h .counters) (counterOk h t (details h t)) && sharedOut t (h .kstart) 4 (h .counters) (h .addends)
+ruleD8 h t = allBelow (h .counters) (counterOk h t (details h t)) && sharedOut h t counterSection

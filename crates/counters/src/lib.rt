@@ -2,11 +2,11 @@
 ghost use mathlib.Core.Path.{_≡_};
 ghost use Prim.Native.Nat.{_<_};
 ghost use Rattle.counts.specs.Below.{allBelow};
-ghost use Rattle.file.specs.Kept.{kept};
+ghost use Rattle.file.specs.Rule.{ruled};
 ghost use Rattle.file.specs.Number.{Reads};
 ghost use Rattle.counters.specs.Addends.{maskOk, fieldAddendOk, counterLevel, feeds, counterAddendOk, addendOk};
 ghost use Rattle.counters.specs.Counters.{footingOk, newAddend, addendsOk, counterOk, ruleD8};
-use file::Kept;
+use file::Rule;
 use tables::Head;
 
 // A mask names at least one of `d` details and nothing else. It has 16 bits, so more details than 16 are the same to it.
@@ -25,7 +25,9 @@ fn field_addend_ok(t: &[u16], h: Head, d: usize, a: usize) -> bool
 {
     let index = tables::addend_num(t, h, a, 1);
     let mask = tables::addend_num(t, h, a, 2);
-    (index < tables::wide(h.fields)) & (tables::field_num(t, index, 0) == 1) & mask_ok(d, mask)
+    (index < tables::wide(h.fields))
+        & (tables::field_num(t, index, 0) == tables::FIELD_NUMBER)
+        & mask_ok(d, mask)
 }
 
 // The level of a counter's group.
@@ -63,8 +65,8 @@ fn addend_ok(t: &[u16], h: Head, d: usize, k: usize, a: usize) -> bool
 {
     let kind = tables::addend_num(t, h, a, 0);
     match kind {
-        0 => field_addend_ok(t, h, d, a),
-        1 => counter_addend_ok(t, h, k, a),
+        tables::ADDEND_FIELD => field_addend_ok(t, h, d, a),
+        tables::ADDEND_COUNTER => counter_addend_ok(t, h, k, a),
         _ => false,
     }
 }
@@ -121,7 +123,7 @@ fn footing_ok(t: &[u16], h: Head, k: usize) -> bool
 {
     let g = tables::counter_num(t, h, k, 0);
     let reset = tables::counter_num(t, h, k, 1);
-    let cf = tables::group_num(t, h, g, 0) == 4;
+    let cf = tables::group_num(t, h, g, 0) == tables::CF;
     (g < tables::wide(h.groups)) & cf & (reset <= tables::group_num(t, h, g, 1))
 }
 
@@ -141,13 +143,10 @@ fn counters_ok(t: &[u16], h: Head, d: usize) -> bool
 }
 
 // D8.
-pub fn rule_d8(t: &[u16], h: Head) -> Kept
-    ensures { λ r. ⌜ r ≡ kept (ruleD8 h (now (t .entry))) ⌝ }
+pub fn rule_d8(t: &[u16], h: Head) -> Rule
+    ensures { λ r. ⌜ r ≡ ruled (ruleD8 h (now (t .entry))) ⌝ }
 {
-    let at = tables::wide(h.kstart);
-    let n = tables::wide(h.counters);
-    let addends = tables::wide(h.addends);
     let d = lookup::details_of(t, h);
     let each = counters_ok(t, h, d);
-    file::answer(each & lookup::shared_out(t, at, 4, n, addends))
+    file::rule_of(each & lookup::shared_out(t, h, tables::COUNTERS))
 }

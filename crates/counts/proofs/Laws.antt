@@ -12,8 +12,8 @@ use mathlib.Core.List.{List}
 use lib.ListN.{length, getD}
 use lib.Seq.{ext-getD}
 use mathlib.Core.Logic.{⊎-elim}
-use mathlib.Core.Bool.{Bool, true, false, cond, _&&_, _||_, not, false≢true}
-use Prim.Native.Nat.{ℕ, zero, suc, _+_, _*_, _≤_, _<_}
+use mathlib.Core.Bool.{Bool, true, false, cond, _&&_, _||_, false≢true}
+use Prim.Native.Nat.{ℕ, zero, suc, _+_, _≤_, _<_}
 use native.Mathlib.Nat.{le-of-suc-le-suc, not-suc-le-zero, eq-or-lt-of-le}
 use native.Mathlib.Numerals.{add-one}
 use native.Mathlib.Omega.{arith}
@@ -38,14 +38,10 @@ pub and-r : (a b : Bool) → (a && b) ≡ true → b ≡ true
 and-r true b e = e
 and-r false b e = absurd (false≢true e)
 
--- "if a then b", passed, where a holds; and "a or b" where a fails
+-- "a or b", passed, where a fails
 pub or-r : (a b : Bool) → (a || b) ≡ true → a ≡ false → b ≡ true
 or-r true b e f = absurd (false≢true (sym f ∙ e))
 or-r false b e f = e
-
-pub when-at : (a b : Bool) → (not a || b) ≡ true → a ≡ true → b ≡ true
-when-at true b e f = e
-when-at false b e f = absurd (false≢true f)
 
 module _ (p : ℕ → Bool) where
   pub all-next : (i : ℕ) {b t : Bool} → b ≡ allBelow i p → t ≡ p i → (b && t) ≡ allBelow (i + 1) p

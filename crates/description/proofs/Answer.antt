@@ -1,12 +1,13 @@
--- What CHECK's answer says: the first broken rule is at most 8, and the literals of a description that keeps D1 lie inside it.
+-- What CHECK's answer says: the first broken rule is 1 to 8, 0 means accepted; the literals of a description that passes D1 lie inside it.
 -- Assumes nothing.
-use Prim.Native.Nat.{ℕ, _+_, _*_, _≤_}
-use mathlib.Core.Path.{_≡_, refl, ap}
+use Prim.Native.Nat.{ℕ, _≤_}
+use mathlib.Core.Path.{_≡_, refl, sym, _∙_, ap}
 use mathlib.Core.Bool.{Bool, true, false}
 use mathlib.Core.List.{List}
 use native.Mathlib.Omega.{arith}
 use lib.ListN.{length, take, replicate, length-replicate}
 use lib.Seq.{length-take-le}
+use Rattle.file.specs.Rule.{ruled}
 use Rattle.file.specs.Sections.{ruleD1}
 use Rattle.tables.specs.declared.Head.{Head}
 use Rattle.tables.specs.Head.{headOf}
@@ -22,47 +23,57 @@ use Rattle.counters.specs.Counters.{ruleD8}
 use Rattle.description.specs.declared.Checked.{Checked}
 use Rattle.description.specs.declared.Checked.the-variants.{Accepted, Broken}
 use Rattle.description.specs.Check.{after, from3, from4, from5, from6, from7, from8, judged, checked}
-use Rattle.description.specs.Refusal.{number, extra, Answers}
+use Rattle.description.specs.Refusal.{number, extra, RuleIn, Answers}
 use Rattle.description.specs.Facts.{LiteralsIn}
 
-abbrev Small : Checked → Type 0
-Small r = (k : ℕ) → r ≡ Broken k → k ≤ 8
-
-accepted-small : Small Accepted
-accepted-small k e = let z : _≡_ {A = ℕ} 0 1 = cc in absurd (omega arith)
-
-after-small : (n : ℕ) (b : Bool) (rest : Checked) → n ≤ 8 → Small rest → Small (after n b rest)
-after-small n true rest l s k e = s k e
-after-small n false rest l s k e = let q : n ≡ k = cc in omega arith
-
-judged-small : (h : Head) (t lits : List ℕ) → Small (judged h t lits)
-unfolding judged from3 from4 from5 from6 from7 from8
-judged-small h t lits =
-    after-small 2 (ruleD2 h) (from3 h t lits) (omega arith)
-    (after-small 3 (ruleD3 h t) (from4 h t lits) (omega arith)
-    (after-small 4 (ruleD4 h t) (from5 h t lits) (omega arith)
-    (after-small 5 (ruleD5 h t) (from6 h t lits) (omega arith)
-    (after-small 6 (ruleD6 h t) (from7 h t lits) (omega arith)
-    (after-small 7 (ruleD7 h t lits) (from8 h t) (omega arith)
-    (after-small 8 (ruleD8 h t) Accepted (omega arith) accepted-small))))))
-
 -- "first broken rule, 1 to 8"
-pub broken-small : (d : List ℕ) → Small (checked d)
+after-in : (n : ℕ) (b : Bool) (rest : Checked) → 1 ≤ n → n ≤ 8 → RuleIn rest → RuleIn (after n (ruled b) rest)
+unfolding ruled
+after-in n true rest l m s k e = s k e
+after-in n false rest l m s k e = let q : n ≡ k = cc in (omega arith, omega arith)
+
+judged-in : (h : Head) (t lits : List ℕ) → RuleIn (judged h t lits)
+unfolding judged from3 from4 from5 from6 from7 from8
+judged-in h t lits =
+    after-in 2 (ruleD2 h) (from3 h t lits) (omega arith) (omega arith)
+    (after-in 3 (ruleD3 h t) (from4 h t lits) (omega arith) (omega arith)
+    (after-in 4 (ruleD4 h t) (from5 h t lits) (omega arith) (omega arith)
+    (after-in 5 (ruleD5 h t) (from6 h t lits) (omega arith) (omega arith)
+    (after-in 6 (ruleD6 h t) (from7 h t lits) (omega arith) (omega arith)
+    (after-in 7 (ruleD7 h t lits) (from8 h t) (omega arith) (omega arith)
+    (after-in 8 (ruleD8 h t) Accepted (omega arith) (omega arith) (λ k e. let z : _≡_ {A = ℕ} 0 1 = cc in absurd (omega arith))))))))
+
+pub broken-in : (d : List ℕ) → RuleIn (checked d)
 unfolding checked
-broken-small d = after-small 1 (ruleD1 d) (judged (headOf d) (table d) (literals d)) (omega arith) (judged-small (headOf d) (table d) (literals d))
+broken-in d = after-in 1 (ruleD1 d) (judged (headOf d) (table d) (literals d)) (omega arith) (omega arith) (judged-in (headOf d) (table d) (literals d))
 
 -- the answer of the definition, with its number and its extra number
 pub answers : (d : List ℕ) (r : Checked) → r ≡ checked d → Answers d r
-answers d r e = record { is = e; numberIs = ap number e; extraIs = ap extra e }
+answers d r e = record { is = e; numberIs = ap number e; extraIs = ap extra e; ruleIn = λ k q. broken-in d k (sym e ∙ q) }
+
+-- the extra number alone tells an accepted description: it is 0 exactly then
+told : (r : Checked) → RuleIn r → extra r ≡ 0 → r ≡ Accepted
+told Accepted s e = refl
+told (Broken k) s e = absurd (omega (arith, s k refl .0))
+
+pub extra-small : (r : Checked) → RuleIn r → extra r ≤ 8
+extra-small Accepted s = omega arith
+extra-small (Broken k) s = s k refl .1
+
+pub extra-accepted : (d : List ℕ) → extra (checked d) ≡ 0 → checked d ≡ Accepted
+extra-accepted d e = told (checked d) (broken-in d) e
+
+pub accepted-extra : (d : List ℕ) → checked d ≡ Accepted → extra (checked d) ≡ 0
+accepted-extra d e = ap extra e
 
 -- D1 alone decides first
 pub d1-broken : (d : List ℕ) → ruleD1 d ≡ false → checked d ≡ Broken 1
-unfolding checked
+unfolding checked ruled
 d1-broken d e = rw e refl
 
-pub d1-kept : (d : List ℕ) → ruleD1 d ≡ true → checked d ≡ judged (headOf d) (table d) (literals d)
-unfolding checked
-d1-kept d e = rw e refl
+pub d1-passed : (d : List ℕ) → ruleD1 d ≡ true → checked d ≡ judged (headOf d) (table d) (literals d)
+unfolding checked ruled
+d1-passed d e = rw e refl
 
 -- "literals ending at the trailer"
 pub literals-in : (d : List ℕ) → ruleD1 d ≡ true → LiteralsIn d

@@ -1,5 +1,5 @@
 -- The paper's number and extra number for each answer of CHECK.
-use Prim.Native.Nat.{ℕ}
+use Prim.Native.Nat.{ℕ, _≤_}
 use mathlib.Core.Path.{_≡_}
 use mathlib.Core.List.{List}
 use Rattle.description.specs.Check.{checked}
@@ -15,8 +15,13 @@ abbrev pub extra : Checked → ℕ
 extra Accepted = 0
 extra (Broken k) = k
 
+-- "first broken rule, 1 to 8"
+abbrev pub RuleIn : Checked → Type 0
+RuleIn r = (k : ℕ) → r ≡ Broken k → (1 ≤ k) × (k ≤ 8)
+
 -- what CHECK promises: the answer of the definition, so its number and its extra number
 pub record Answers (d : List ℕ) (r : Checked) : Type 0 where
   pub is : r ≡ checked d
   pub numberIs : number r ≡ number (checked d)
   pub extraIs : extra r ≡ extra (checked d)
+  pub ruleIn : RuleIn r

@@ -1,13 +1,13 @@
 // CHECK: a description is accepted exactly when it keeps D1 to D8.
 ghost use mathlib.Core.Path.{_≡_};
 ghost use Rattle.description.specs.Check.{checked, judged};
-ghost use Rattle.description.specs.Refusal.{Answers};
+ghost use Rattle.description.specs.Refusal.{number, extra, Answers};
 ghost use mathlib.Core.Bool.{true};
 ghost use lib.ListN.{length};
 ghost use Rattle.file.specs.Sections.{ruleD1};
 ghost use Rattle.tables.specs.Table.{numbers, literals};
 ghost use Rattle.description.specs.Facts.{LiteralsIn};
-use file::Kept;
+use file::Rule;
 use tables::Head;
 
 // The answer of CHECK: the number is that of the first broken rule.
@@ -16,29 +16,51 @@ pub enum Checked {
     Broken(usize),
 }
 
+impl Checked {
+    // The number of the refusal table; 0 is acceptance.
+    pub fn number(self) -> u64
+        ensures { λ r. ⌜ r ≡ number self ⌝ }
+    {
+        match self {
+            Checked::Accepted => 0,
+            Checked::Broken(_) => 1,
+        }
+    }
+
+    // The extra number: the first broken rule; 0 where there is none.
+    pub fn extra(self) -> u64
+        ensures { λ r. ⌜ r ≡ extra self ⌝ }
+    {
+        match self {
+            Checked::Accepted => 0,
+            Checked::Broken(rule) => rule as u64,
+        }
+    }
+}
+
 // D2 to D8, on the tables.
 pub fn judge(t: &[u16], h: Head, lits: &[u8]) -> Checked
     ensures { λ r. ⌜ r ≡ judged h (now (t .entry)) (now (lits .entry)) ⌝ }
 {
-    let Kept::Yes = fields::rule_d2(h) else {
+    let Rule::Passed = fields::rule_d2(h) else {
         return Checked::Broken(2);
     };
-    let Kept::Yes = fields::rule_d3(t, h) else {
+    let Rule::Passed = fields::rule_d3(t, h) else {
         return Checked::Broken(3);
     };
-    let Kept::Yes = fields::rule_d4(t, h) else {
+    let Rule::Passed = fields::rule_d4(t, h) else {
         return Checked::Broken(4);
     };
-    let Kept::Yes = groups::rule_d5(t, h) else {
+    let Rule::Passed = groups::rule_d5(t, h) else {
         return Checked::Broken(5);
     };
-    let Kept::Yes = fits::rule_d6(t, h) else {
+    let Rule::Passed = fits::rule_d6(t, h) else {
         return Checked::Broken(6);
     };
-    let Kept::Yes = items::rule_d7(t, h, lits) else {
+    let Rule::Passed = items::rule_d7(t, h, lits) else {
         return Checked::Broken(7);
     };
-    let Kept::Yes = counters::rule_d8(t, h) else {
+    let Rule::Passed = counters::rule_d8(t, h) else {
         return Checked::Broken(8);
     };
     Checked::Accepted
@@ -67,10 +89,10 @@ fn check_in(d: &[u8], t: &mut [u16]) -> Checked
 pub fn check(d: &[u8]) -> Checked
     ensures { λ r. ⌜ Answers (now (d .entry)) r ⌝ }
 {
-    let Kept::Yes = file::rule_d1(d) else {
+    let Rule::Passed = file::rule_d1(d) else {
         return Checked::Broken(1);
     };
-    let mut t = [tables::UNSET; 4392];
+    let mut t = [tables::UNSET; tables::NUMBERS_MAX];
     let n = tables::numbers_of(d);
     check_in(d, &mut t[..n])
 }

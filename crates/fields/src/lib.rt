@@ -2,27 +2,32 @@
 ghost use mathlib.Core.Path.{_≡_};
 ghost use Prim.Native.Nat.{_<_};
 ghost use Rattle.counts.specs.Below.{allBelow};
-ghost use Rattle.file.specs.Kept.{kept};
+ghost use Rattle.file.specs.Rule.{ruled};
 ghost use Rattle.fields.specs.Page.{ruleD2};
 ghost use Rattle.fields.specs.Fields.{fieldOk, ruleD3};
 ghost use Rattle.fields.specs.Controls.{differs, controlOk, ruleD4};
-use file::Kept;
+use file::Rule;
 use tables::Head;
 
-pub fn rule_d2(h: Head) -> Kept
-    ensures { λ r. ⌜ r ≡ kept (ruleD2 h) ⌝ }
+pub fn rule_d2(h: Head) -> Rule
+    ensures { λ r. ⌜ r ≡ ruled (ruleD2 h) ⌝ }
 {
-    file::answer(
+    let v = tables::wide(h.version);
+    let widest = file::widest_line(v);
+    let longest = file::longest_record(v);
+    let width = tables::wide(h.width);
+    let length = tables::wide(h.reclen);
+    file::rule_of(
         (1 <= h.top)
             & (h.top <= h.fd)
             & (h.fd <= h.ld)
             & (h.ld <= h.ft)
             & (h.ft <= h.page)
             & (h.page <= 999)
-            & (1 <= h.width)
-            & (h.width <= 132)
-            & (1 <= h.reclen)
-            & (h.reclen <= 256),
+            & (1 <= width)
+            & (width <= widest)
+            & (1 <= length)
+            & (length <= longest),
     )
 }
 
@@ -36,11 +41,12 @@ fn field_ok(t: &[u16], h: Head, i: usize) -> bool
     let width = tables::field_num(t, i, 2);
     let length = tables::wide(h.reclen);
     (offset + width <= length)
-        & ((kind == 0) & (1 <= width) & (width <= 64) | (kind == 1) & (2 <= width) & (width <= 18))
+        & ((kind == tables::FIELD_TEXT) & (1 <= width) & (width <= 64)
+            | (kind == tables::FIELD_NUMBER) & (2 <= width) & (width <= 18))
 }
 
-pub fn rule_d3(t: &[u16], h: Head) -> Kept
-    ensures { λ r. ⌜ r ≡ kept (ruleD3 h (now (t .entry))) ⌝ }
+pub fn rule_d3(t: &[u16], h: Head) -> Rule
+    ensures { λ r. ⌜ r ≡ ruled (ruleD3 h (now (t .entry))) ⌝ }
 {
     let n = tables::wide(h.fields);
     let mut ok = true;
@@ -50,7 +56,7 @@ pub fn rule_d3(t: &[u16], h: Head) -> Kept
         ok = ok & this;
         i += 1;
     }
-    file::answer(ok)
+    file::rule_of(ok)
 }
 
 // No control before control `i` has this field index.
@@ -75,11 +81,11 @@ fn control_ok(t: &[u16], h: Head, i: usize) -> bool
 {
     let index = tables::control_num(t, h, i);
     let fields = tables::wide(h.fields);
-    ((index == 65535) & (i == 0) | (index < fields)) & differs_from_earlier(t, h, i, index)
+    ((index == tables::FINAL) & (i == 0) | (index < fields)) & differs_from_earlier(t, h, i, index)
 }
 
-pub fn rule_d4(t: &[u16], h: Head) -> Kept
-    ensures { λ r. ⌜ r ≡ kept (ruleD4 h (now (t .entry))) ⌝ }
+pub fn rule_d4(t: &[u16], h: Head) -> Rule
+    ensures { λ r. ⌜ r ≡ ruled (ruleD4 h (now (t .entry))) ⌝ }
 {
     let n = tables::wide(h.controls);
     let mut ok = true;
@@ -89,5 +95,5 @@ pub fn rule_d4(t: &[u16], h: Head) -> Kept
         ok = ok & this;
         i += 1;
     }
-    file::answer(ok)
+    file::rule_of(ok)
 }

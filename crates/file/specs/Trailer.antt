@@ -1,5 +1,5 @@
 -- "Then a 48-byte trailer, found from the file's end": eight starts and counts, then eight settings, the last one the version.
-use Prim.Native.Nat.{ℕ, _+_, _-_, _*_}
+use Prim.Native.Nat.{ℕ, _+_, _-_, _*_, _≤_}
 use mathlib.Core.List.{List}
 use lib.ListN.{length}
 use Rattle.file.specs.Version.{trailerSize, sections}
@@ -8,6 +8,10 @@ use Rattle.file.specs.Number.{num}
 -- the last number of the file
 abbrev pub version : List ℕ → ℕ
 version d = num d (length d - 2)
+
+-- the file has room for the trailer of its version
+abbrev pub HasTrailer : List ℕ → Type 0
+HasTrailer d = trailerSize (version d) ≤ length d
 
 -- the first byte of the trailer
 abbrev pub trailer : List ℕ → ℕ

@@ -1,9 +1,10 @@
--- What a version of the description file sets: sections, entry sizes and limits. There is one version so far, so none of them looks at it yet.
+-- What a version of the description file sets: sections, trailer, entry sizes and limits. There is one version so far, so only `known` looks at it.
 use Prim.Native.Nat.{ℕ, _+_, _*_}
 use mathlib.Core.Bool.{Bool}
-use mathlib.Core.List.{List, [], _∷_}
+use mathlib.Core.List.{[], _∷_}
 use lib.Dec.{eqb}
 use lib.ListN.{getD}
+use Rattle.file.specs.Limits.{lineMax, recordMax, controlsMax, groupsMax, countersMax}
 
 -- "version 1"
 abbrev pub known : ℕ → Bool
@@ -23,11 +24,11 @@ entrySize v k = getD (6 ∷ 2 ∷ 12 ∷ 8 ∷ 12 ∷ 8 ∷ 6 ∷ 1 ∷ []) k 0
 
 -- "At most 32 fields, 8 controls, 32 groups, 128 lines, 512 items, 32 counters, 128 addends, 4,096 literal bytes."
 abbrev pub entryLimit : ℕ → ℕ → ℕ
-entryLimit v k = getD (32 ∷ 8 ∷ 32 ∷ 128 ∷ 512 ∷ 32 ∷ 128 ∷ 4096 ∷ []) k 0
+entryLimit v k = getD (32 ∷ controlsMax ∷ groupsMax ∷ 128 ∷ 512 ∷ countersMax ∷ 128 ∷ 4096 ∷ []) k 0
 
 -- "W 1 to 132; R 1 to 256"
 abbrev pub widest : ℕ → ℕ
-widest v = 132
+widest v = lineMax
 
 abbrev pub longest : ℕ → ℕ
-longest v = 256
+longest v = recordMax

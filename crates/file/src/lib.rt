@@ -1,24 +1,39 @@
-// The description file: its numbers, its trailer, its sections, and rule D1.
+// The description file: its numbers, its trailer, its sections, and rule D1. What differs between versions goes by the version.
 ghost use mathlib.Core.Path.{_≡_};
-ghost use Prim.Native.Nat.{_+_, _*_, _<_, _≤_, _^_};
-ghost use lib.ListN.{length, getD};
+ghost use Prim.Native.Nat.{_+_, _*_, _<_, _≤_};
+ghost use lib.Dec.{leb};
+ghost use lib.ListN.{length};
 ghost use Rattle.counts.specs.Below.{allBelow};
-ghost use Rattle.file.specs.Version.{entrySize, entryLimit, trailerSize, sections};
+ghost use Rattle.file.specs.Version.{known, sections, trailerSize, entrySize, entryLimit, widest, longest};
 ghost use Rattle.file.specs.Number.{num, Reads};
-ghost use Rattle.file.specs.Trailer.{version as versionSpec, trailer, start, count, setting};
+ghost use Rattle.file.specs.Trailer.{version as versionSpec, HasTrailer, trailer, start, count, setting};
 ghost use Rattle.file.specs.Sections.{sectionEnd, nextStart, sectionOk, ruleD1};
-ghost use Rattle.file.specs.Kept.{kept};
+ghost use Rattle.file.specs.Rule.{ruled};
+
+// The widest line and the longest record.
+pub const LINE_MAX: usize = 132;
+
+pub const RECORD_MAX: usize = 256;
+
+// The most controls, groups, counters and details.
+pub const CONTROLS_MAX: usize = 8;
+
+pub const GROUPS_MAX: usize = 32;
+
+pub const COUNTERS_MAX: usize = 32;
+
+pub const DETAILS_MAX: usize = 8;
 
 // The answer of one rule.
-pub enum Kept {
-    Yes,
-    No,
+pub enum Rule {
+    Passed,
+    Broken,
 }
 
-pub fn answer(ok: bool) -> Kept
-    ensures { λ r. ⌜ r ≡ kept ok ⌝ }
+pub fn rule_of(ok: bool) -> Rule
+    ensures { λ r. ⌜ r ≡ ruled ok ⌝ }
 {
-    if ok { Kept::Yes } else { Kept::No }
+    if ok { Rule::Passed } else { Rule::Broken }
 }
 
 // A number, of its low and its high byte.
@@ -36,9 +51,68 @@ pub fn num_at(d: &[u8], at: usize) -> usize
     joined(d[at], d[at + 1]) as usize
 }
 
+// What a version sets. There is one so far, so only the first of these looks at it.
+fn known_version(v: usize) -> bool
+    ensures { λ r. ⌜ r ≡ known v ⌝ }
+{
+    v == 1
+}
+
+fn section_count(v: usize) -> usize
+    ensures { λ r. ⌜ r ≡ sections v ⌝ }
+{
+    8
+}
+
+fn trailer_size(v: usize) -> usize
+    ensures { λ r. ⌜ r ≡ trailerSize v ⌝ }
+{
+    4 * section_count(v) + 16
+}
+
+const SIZES: [usize; 8] = [6, 2, 12, 8, 12, 8, 6, 1];
+
+const LIMITS: [usize; 8] = [
+    32,
+    CONTROLS_MAX,
+    GROUPS_MAX,
+    128,
+    512,
+    COUNTERS_MAX,
+    128,
+    4096,
+];
+
+// Bytes of an entry, and the most entries, of section `k`.
+fn entry_size(v: usize, k: usize) -> usize
+    requires { ⌜ k < sections v ⌝ }
+    ensures { λ r. ⌜ (r ≡ entrySize v k) × (r < 16) ⌝ }
+{
+    SIZES[k]
+}
+
+fn entry_limit(v: usize, k: usize) -> usize
+    requires { ⌜ k < sections v ⌝ }
+    ensures { λ r. ⌜ r ≡ entryLimit v k ⌝ }
+{
+    LIMITS[k]
+}
+
+pub fn widest_line(v: usize) -> usize
+    ensures { λ r. ⌜ r ≡ widest v ⌝ }
+{
+    LINE_MAX
+}
+
+pub fn longest_record(v: usize) -> usize
+    ensures { λ r. ⌜ r ≡ longest v ⌝ }
+{
+    RECORD_MAX
+}
+
 // The version, the last number of the file.
 fn version(d: &[u8]) -> usize
-    requires { ⌜ 48 ≤ length (now d) ⌝ }
+    requires { ⌜ 2 ≤ length (now d) ⌝ }
     ensures { λ r. ⌜ Reads (versionSpec (now (d .entry))) r ⌝ }
 {
     num_at(d, d.len() - 2)
@@ -46,22 +120,22 @@ fn version(d: &[u8]) -> usize
 
 // Where the trailer starts.
 fn trailer_at(d: &[u8]) -> usize
-    requires { ⌜ 48 ≤ length (now d) ⌝ }
+    requires { ⌜ HasTrailer (now d) ⌝ }
     ensures { λ r. ⌜ r ≡ trailer (now (d .entry)) ⌝ }
 {
-    d.len() - 48
+    d.len() - trailer_size(version(d))
 }
 
 // Start and entry count of section `k`.
 pub fn start_of(d: &[u8], k: usize) -> usize
-    requires { ⌜ (48 ≤ length (now d)) × (k < 8) ⌝ }
+    requires { ⌜ HasTrailer (now d) × (k < sections (versionSpec (now d))) ⌝ }
     ensures { λ r. ⌜ Reads (start (now (d .entry)) k) r ⌝ }
 {
     num_at(d, trailer_at(d) + 4 * k)
 }
 
 pub fn count_of(d: &[u8], k: usize) -> usize
-    requires { ⌜ (48 ≤ length (now d)) × (k < 8) ⌝ }
+    requires { ⌜ HasTrailer (now d) × (k < sections (versionSpec (now d))) ⌝ }
     ensures { λ r. ⌜ Reads (count (now (d .entry)) k) r ⌝ }
 {
     num_at(d, trailer_at(d) + 4 * k + 2)
@@ -69,45 +143,28 @@ pub fn count_of(d: &[u8], k: usize) -> usize
 
 // P, H, FD, LD, FT, W, R, version.
 pub fn setting_of(d: &[u8], j: usize) -> usize
-    requires { ⌜ (48 ≤ length (now d)) × (j < 8) ⌝ }
+    requires { ⌜ HasTrailer (now d) × (j < 8) ⌝ }
     ensures { λ r. ⌜ Reads (setting (now (d .entry)) j) r ⌝ }
 {
-    num_at(d, trailer_at(d) + 32 + 2 * j)
-}
-
-// Bytes of an entry, and the most entries, of each section.
-const SIZES: [usize; 8] = [6, 2, 12, 8, 12, 8, 6, 1];
-
-const LIMITS: [usize; 8] = [32, 8, 32, 128, 512, 32, 128, 4096];
-
-fn size_of(k: usize) -> usize
-    requires { ⌜ k < 8 ⌝ }
-    ensures { λ r. ⌜ (r ≡ entrySize 1 k) × (r < 16) ⌝ }
-{
-    SIZES[k]
-}
-
-fn limit_of(k: usize) -> usize
-    requires { ⌜ k < 8 ⌝ }
-    ensures { λ r. ⌜ r ≡ entryLimit 1 k ⌝ }
-{
-    LIMITS[k]
+    let all = section_count(version(d));
+    num_at(d, trailer_at(d) + 4 * all + 2 * j)
 }
 
 // The byte past section `k`.
 fn end_of(d: &[u8], k: usize) -> usize
-    requires { ⌜ (48 ≤ length (now d)) × (k < 8) ⌝ }
+    requires { ⌜ HasTrailer (now d) × (k < sections (versionSpec (now d))) ⌝ }
     ensures { λ r. ⌜ r ≡ sectionEnd (now (d .entry)) k ⌝ }
 {
-    start_of(d, k) + count_of(d, k) * size_of(k)
+    start_of(d, k) + count_of(d, k) * entry_size(version(d), k)
 }
 
 // Where section `k` must end: the start of the next one, or the trailer.
 fn next_start(d: &[u8], k: usize) -> usize
-    requires { ⌜ (48 ≤ length (now d)) × (k < 8) ⌝ }
+    requires { ⌜ HasTrailer (now d) × (k < sections (versionSpec (now d))) ⌝ }
     ensures { λ r. ⌜ r ≡ nextStart (now (d .entry)) k ⌝ }
 {
-    if k < 7 {
+    let last = section_count(version(d)) - 1;
+    if k < last {
         start_of(d, k + 1)
     } else {
         trailer_at(d)
@@ -115,19 +172,20 @@ fn next_start(d: &[u8], k: usize) -> usize
 }
 
 fn section_ok(d: &[u8], k: usize) -> bool
-    requires { ⌜ (48 ≤ length (now d)) × (k < 8) ⌝ }
+    requires { ⌜ HasTrailer (now d) × (k < sections (versionSpec (now d))) ⌝ }
     ensures { λ r. ⌜ r ≡ sectionOk (now (d .entry)) k ⌝ }
 {
-    (count_of(d, k) <= limit_of(k)) & (end_of(d, k) == next_start(d, k))
+    (count_of(d, k) <= entry_limit(version(d), k)) & (end_of(d, k) == next_start(d, k))
 }
 
 fn sections_ok(d: &[u8]) -> bool
-    requires { ⌜ 48 ≤ length (now d) ⌝ }
-    ensures { λ r. ⌜ r ≡ allBelow 8 (sectionOk (now (d .entry))) ⌝ }
+    requires { ⌜ HasTrailer (now d) ⌝ }
+    ensures { λ r. ⌜ r ≡ allBelow (sections (versionSpec (now (d .entry)))) (sectionOk (now (d .entry))) ⌝ }
 {
+    let n = section_count(version(d));
     let mut ok = true;
     let mut k = 0;
-    while k < 8 {
+    while k < n {
         let this = section_ok(d, k);
         ok = ok & this;
         k += 1;
@@ -135,11 +193,23 @@ fn sections_ok(d: &[u8]) -> bool
     ok
 }
 
-pub fn rule_d1(d: &[u8]) -> Kept
-    ensures { λ r. ⌜ r ≡ kept (ruleD1 (now (d .entry))) ⌝ }
+// "at least 48 bytes": no version has a shorter trailer, and below that none is read.
+const TRAILER_LEAST: usize = 48;
+
+fn has_trailer(d: &[u8]) -> bool
+    ensures { λ r. ⌜ r ≡ leb (trailerSize (versionSpec (now (d .entry)))) (length (now (d .entry))) ⌝ }
 {
-    if d.len() < 48 {
-        return answer(false);
+    if d.len() < TRAILER_LEAST {
+        return false;
     }
-    answer((version(d) == 1) & (start_of(d, 0) == 0) & sections_ok(d))
+    trailer_size(version(d)) <= d.len()
+}
+
+pub fn rule_d1(d: &[u8]) -> Rule
+    ensures { λ r. ⌜ r ≡ ruled (ruleD1 (now (d .entry))) ⌝ }
+{
+    if has_trailer(d) {
+        return rule_of(known_version(version(d)) & (start_of(d, 0) == 0) & sections_ok(d));
+    }
+    rule_of(false)
 }

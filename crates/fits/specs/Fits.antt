@@ -5,6 +5,8 @@ use mathlib.Core.List.{List}
 use lib.Dec.{leb, ltb, eqb}
 use Rattle.counts.specs.Below.{allBelow}
 use Rattle.tables.specs.declared.Head.{Head}
+use Rattle.tables.specs.Kinds.{typeRH, typePH, typeDE, typeCF, typePF, lineNextPage, lineRelative}
+use Rattle.tables.specs.Section.{lineSection}
 use Rattle.tables.specs.Table.{typeOf, lineCount}
 use Rattle.lookup.specs.Shared.{sharedOut}
 use Rattle.lines.specs.Lines.{kindOf, firstInt, later, span, laterOk, firstOk}
@@ -12,7 +14,7 @@ use Rattle.fits.specs.Starts.{startFrom, aboveHead, headEnd, footEnd}
 
 -- "CH, DE in FD..LD and CF in FD..FT, taking first line n, or FD where relative"
 abbrev pub bodyStart : Head → List ℕ → ℕ → ℕ
-bodyStart h t i = cond (eqb (kindOf h t i) 2) (h .fd) (firstInt h t i)
+bodyStart h t i = cond (eqb (kindOf h t i) lineRelative) (h .fd) (firstInt h t i)
 
 unfoldable pub bodyFits : Head → List ℕ → ℕ → ℕ → Bool
 bodyFits h t low i = leb (h .fd) (bodyStart h t i) && leb (bodyStart h t i + span h t i) low
@@ -26,17 +28,17 @@ headFits h t above i =
 unfoldable pub footFits : Head → List ℕ → ℕ → ℕ → Bool
 footFits h t above i =
     leb (startFrom h t above i + span h t i) (h .page)
-    && (eqb (kindOf h t i) 1 && leb (h .top) (firstInt h t i)
-    || not (eqb (kindOf h t i) 1) && ltb (h .ft) (startFrom h t above i) && ltb above (startFrom h t above i))
+    && (eqb (kindOf h t i) lineNextPage && leb (h .top) (firstInt h t i)
+    || not (eqb (kindOf h t i) lineNextPage) && ltb (h .ft) (startFrom h t above i) && ltb above (startFrom h t above i))
 
--- "the group must fit", by its type: 0 RH, 1 PH, 2 CH, 3 DE, 4 CF, 5 PF, 6 RF (D5 refuses others)
+-- "the group must fit", by its type, in their order; the last is RF (D5 refuses others)
 unfoldable pub fits : Head → List ℕ → ℕ → Bool
 fits h t i =
-    cond (eqb (typeOf h t i) 0) (headFits h t (aboveHead h) i)
-    (cond (eqb (typeOf h t i) 1) (headFits h t (headEnd h t) i)
-    (cond (leb (typeOf h t i) 3) (bodyFits h t (h .ld) i)
-    (cond (eqb (typeOf h t i) 4) (bodyFits h t (h .ft) i)
-    (cond (eqb (typeOf h t i) 5) (footFits h t (h .ft) i) (footFits h t (footEnd h t) i)))))
+    cond (eqb (typeOf h t i) typeRH) (headFits h t (aboveHead h) i)
+    (cond (eqb (typeOf h t i) typePH) (headFits h t (headEnd h t) i)
+    (cond (leb (typeOf h t i) typeDE) (bodyFits h t (h .ld) i)
+    (cond (eqb (typeOf h t i) typeCF) (bodyFits h t (h .ft) i)
+    (cond (eqb (typeOf h t i) typePF) (footFits h t (h .ft) i) (footFits h t (footEnd h t) i)))))
 
 -- "at most 16 lines a group"; a group without lines has no more to keep
 unfoldable pub linesOk : Head → List ℕ → ℕ → Bool
@@ -45,4 +47,4 @@ linesOk h t i =
 
 -- ".. items shared out in line order"
 unfoldable pub ruleD6 : Head → List ℕ → Bool
-ruleD6 h t = allBelow (h .groups) (linesOk h t) && sharedOut t (h .lstart) 4 (h .lines) (h .items)
+ruleD6 h t = allBelow (h .groups) (linesOk h t) && sharedOut h t lineSection

@@ -4,13 +4,14 @@ use mathlib.Core.Bool.{Bool, _&&_, cond}
 use mathlib.Core.List.{List}
 use lib.Dec.{ltb, eqb}
 use Rattle.tables.specs.declared.Head.{Head}
+use Rattle.tables.specs.Kinds.{typeRH, typePF, lineRelative}
 use Rattle.tables.specs.Table.{lineCount}
 use Rattle.lookup.specs.Find.{theGroup}
 use Rattle.lines.specs.Lines.{kindOf, firstInt, span}
 
 -- a heading or footing counted from a line: "relative: that line + n"
 abbrev pub startFrom : Head → List ℕ → ℕ → ℕ → ℕ
-startFrom h t above i = cond (eqb (kindOf h t i) 2) (above + firstInt h t i) (firstInt h t i)
+startFrom h t above i = cond (eqb (kindOf h t i) lineRelative) (above + firstInt h t i) (firstInt h t i)
 
 -- "A heading or footing without lines counts here as absent."
 abbrev pub present : Head → List ℕ → ℕ → Bool
@@ -24,10 +25,10 @@ lastFrom h t above i = cond (present h t i) (startFrom h t above i + span h t i)
 abbrev pub aboveHead : Head → ℕ
 aboveHead h = h .top - 1
 
--- "PH starts below RH's last line (relative: that line + n; without RH, H−1+n)"; RH is type 0
+-- "PH starts below RH's last line (relative: that line + n; without RH, H−1+n)"
 unfoldable pub headEnd : Head → List ℕ → ℕ
-headEnd h t = lastFrom h t (aboveHead h) (theGroup h t 0 0)
+headEnd h t = lastFrom h t (aboveHead h) (theGroup h t typeRH 0)
 
--- "RF not on a page of its own starts below PF's last line (relative: that line + n; without PF, FT+n)"; PF is type 5
+-- "RF not on a page of its own starts below PF's last line (relative: that line + n; without PF, FT+n)"
 unfoldable pub footEnd : Head → List ℕ → ℕ
-footEnd h t = lastFrom h t (h .ft) (theGroup h t 5 0)
+footEnd h t = lastFrom h t (h .ft) (theGroup h t typePF 0)

@@ -3,11 +3,11 @@ ghost use mathlib.Core.Path.{_≡_};
 ghost use Prim.Native.Nat.{_+_, _<_};
 ghost use Rattle.counts.specs.Below.{allBelow};
 ghost use Rattle.file.specs.Number.{Reads};
-ghost use Rattle.file.specs.Kept.{kept};
+ghost use Rattle.file.specs.Rule.{ruled};
 ghost use Rattle.lines.specs.Bounded.{Bounded};
 ghost use Rattle.fits.specs.Starts.{startFrom, present, lastFrom, aboveHead, headEnd, footEnd};
 ghost use Rattle.fits.specs.Fits.{bodyFits, headFits, footFits, fits, linesOk, ruleD6};
-use file::Kept;
+use file::Rule;
 use tables::Head;
 
 // The first line of the heading or footing `i`, counted from the line `above`.
@@ -17,7 +17,7 @@ pub fn start_from(t: &[u16], h: Head, above: usize, i: usize) -> usize
 {
     let kind = lines::first_num(t, h, i, 0);
     let n = lines::first_num(t, h, i, 1);
-    counts::choose(kind == 2, above + n, n)
+    counts::choose(kind == tables::LINE_RELATIVE, above + n, n)
 }
 
 // Group `i` exists and has lines.
@@ -55,7 +55,7 @@ pub fn head_end(t: &[u16], h: Head) -> usize
     ensures { λ r. ⌜ Bounded 17179869184 (headEnd h (now (t .entry))) r ⌝ }
 {
     let above = above_head(h);
-    let i = lookup::find(t, h, 0, 0);
+    let i = lookup::find(t, h, tables::RH, 0);
     last_from(t, h, above, i)
 }
 
@@ -64,7 +64,7 @@ pub fn foot_end(t: &[u16], h: Head) -> usize
     ensures { λ r. ⌜ Bounded 17179869184 (footEnd h (now (t .entry))) r ⌝ }
 {
     let above = tables::wide(h.ft);
-    let i = lookup::find(t, h, 5, 0);
+    let i = lookup::find(t, h, tables::PF, 0);
     last_from(t, h, above, i)
 }
 
@@ -88,7 +88,7 @@ fn body_fits(t: &[u16], h: Head, low: usize, i: usize) -> bool
     let fd = tables::wide(h.fd);
     let kind = lines::first_num(t, h, i, 0);
     let n = lines::first_num(t, h, i, 1);
-    let start = counts::choose(kind == 2, fd, n);
+    let start = counts::choose(kind == tables::LINE_RELATIVE, fd, n);
     let far = lines::span_of(t, h, i);
     (fd <= start) & (start + far <= low)
 }
@@ -103,10 +103,11 @@ fn foot_fits(t: &[u16], h: Head, above: usize, i: usize) -> bool
     let page = tables::wide(h.page);
     let kind = lines::first_num(t, h, i, 0);
     let n = lines::first_num(t, h, i, 1);
-    let start = counts::choose(kind == 2, above + n, n);
+    let start = counts::choose(kind == tables::LINE_RELATIVE, above + n, n);
     let far = lines::span_of(t, h, i);
     (start + far <= page)
-        & ((kind == 1) & (top <= n) | (kind != 1) & (ft < start) & (above < start))
+        & ((kind == tables::LINE_NEXT_PAGE) & (top <= n)
+            | (kind != tables::LINE_NEXT_PAGE) & (ft < start) & (above < start))
 }
 
 // The fit test of the group's type.
@@ -115,19 +116,19 @@ fn fits_page(t: &[u16], h: Head, i: usize) -> bool
     ensures { λ r. ⌜ r ≡ fits h (now (t .entry)) i ⌝ }
 {
     let kind = tables::group_num(t, h, i, 0);
-    if kind == 0 {
+    if kind == tables::RH {
         return head_fits(t, h, above_head(h), i);
     }
-    if kind == 1 {
+    if kind == tables::PH {
         return head_fits(t, h, head_end(t, h), i);
     }
-    if kind <= 3 {
+    if kind <= tables::DE {
         return body_fits(t, h, tables::wide(h.ld), i);
     }
-    if kind == 4 {
+    if kind == tables::CF {
         return body_fits(t, h, tables::wide(h.ft), i);
     }
-    if kind == 5 {
+    if kind == tables::PF {
         return foot_fits(t, h, tables::wide(h.ft), i);
     }
     foot_fits(t, h, foot_end(t, h), i)
@@ -159,11 +160,8 @@ fn all_lines_ok(t: &[u16], h: Head) -> bool
     ok
 }
 
-pub fn rule_d6(t: &[u16], h: Head) -> Kept
-    ensures { λ r. ⌜ r ≡ kept (ruleD6 h (now (t .entry))) ⌝ }
+pub fn rule_d6(t: &[u16], h: Head) -> Rule
+    ensures { λ r. ⌜ r ≡ ruled (ruleD6 h (now (t .entry))) ⌝ }
 {
-    let at = tables::wide(h.lstart);
-    let n = tables::wide(h.lines);
-    let items = tables::wide(h.items);
-    file::answer(all_lines_ok(t, h) & lookup::shared_out(t, at, 4, n, items))
+    file::rule_of(all_lines_ok(t, h) & lookup::shared_out(t, h, tables::LINES))
 }

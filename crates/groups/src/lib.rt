@@ -2,9 +2,9 @@
 ghost use mathlib.Core.Path.{_≡_};
 ghost use Prim.Native.Nat.{_<_};
 ghost use Rattle.counts.specs.Below.{allBelow};
-ghost use Rattle.file.specs.Kept.{kept};
+ghost use Rattle.file.specs.Rule.{ruled};
 ghost use Rattle.groups.specs.Groups.{numbersOk, alone, groupOk, ruleD5};
-use file::Kept;
+use file::Rule;
 use tables::Head;
 
 // The type, level and next group of group `i`.
@@ -19,15 +19,15 @@ fn numbers_ok(t: &[u16], h: Head, i: usize) -> bool
     let levels = tables::wide(h.controls);
     let fd = tables::wide(h.fd);
     let ft = tables::wide(h.ft);
-    let leveled = (kind == 2) | (kind == 4);
-    (kind <= 6)
+    let leveled = (kind == tables::CH) | (kind == tables::CF);
+    (kind <= tables::RF)
         & (leveled & (level < levels) | !leveled & (level == 0))
-        & ((next == 0) & (by == 0)
-            | (2 <= kind)
-                & (kind <= 4)
-                & ((next == 1) & (fd <= by) & (by <= ft)
-                    | (next == 2) & (1 <= by) & (by <= 999)
-                    | (next == 3) & (by == 0)))
+        & ((next == tables::NEXT_NONE) & (by == 0)
+            | (tables::CH <= kind)
+                & (kind <= tables::CF)
+                & ((next == tables::NEXT_ABSOLUTE) & (fd <= by) & (by <= ft)
+                    | (next == tables::NEXT_RELATIVE) & (1 <= by) & (by <= 999)
+                    | (next == tables::NEXT_PAGE) & (by == 0)))
 }
 
 // Group `i` is a detail, or the only group of its type and level.
@@ -36,7 +36,7 @@ fn alone_of(t: &[u16], h: Head, i: usize) -> bool
     ensures { λ r. ⌜ r ≡ alone h (now (t .entry)) i ⌝ }
 {
     let kind = tables::group_num(t, h, i, 0);
-    if kind == 3 {
+    if kind == tables::DE {
         return true;
     }
     lookup::find(t, h, kind, tables::group_num(t, h, i, 1)) == i
@@ -56,14 +56,14 @@ fn groups_ok(t: &[u16], h: Head) -> bool
     ok
 }
 
-pub fn rule_d5(t: &[u16], h: Head) -> Kept
-    ensures { λ r. ⌜ r ≡ kept (ruleD5 h (now (t .entry))) ⌝ }
+pub fn rule_d5(t: &[u16], h: Head) -> Rule
+    ensures { λ r. ⌜ r ≡ ruled (ruleD5 h (now (t .entry))) ⌝ }
 {
-    let at = tables::wide(h.gstart);
-    let n = tables::wide(h.groups);
-    let lines = tables::wide(h.lines);
     let found = lookup::details_of(t, h);
-    file::answer(
-        groups_ok(t, h) & (1 <= found) & (found <= 8) & lookup::shared_out(t, at, 6, n, lines),
+    file::rule_of(
+        groups_ok(t, h)
+            & (1 <= found)
+            & (found <= file::DETAILS_MAX)
+            & lookup::shared_out(t, h, tables::GROUPS),
     )
 }

@@ -2,11 +2,11 @@
 ghost use mathlib.Core.Path.{_≡_};
 ghost use Prim.Native.Nat.{_<_};
 ghost use Rattle.counts.specs.Below.{allBelow};
-ghost use Rattle.file.specs.Kept.{kept};
+ghost use Rattle.file.specs.Rule.{ruled};
 ghost use Rattle.tables.specs.Table.{itemOf};
 ghost use Rattle.items.specs.Sources.{ofControl, fieldItemOk, sourceOk, decimalsOk, flagOk, shownOk};
 ghost use Rattle.items.specs.Items.{placeOk, lineItemsOk, groupItemsOk, ruleD7};
-use file::Kept;
+use file::Rule;
 use tables::Head;
 use tables::Item;
 
@@ -154,10 +154,10 @@ fn all_items_ok(t: &[u16], h: Head) -> bool
 }
 
 // D7. After D5 and D6 the loops turn once for each line and item.
-pub fn rule_d7(t: &[u16], h: Head, lits: &[u8]) -> Kept
-    ensures { λ r. ⌜ r ≡ kept (ruleD7 h (now (t .entry)) (now (lits .entry))) ⌝ }
+pub fn rule_d7(t: &[u16], h: Head, lits: &[u8]) -> Rule
+    ensures { λ r. ⌜ r ≡ ruled (ruleD7 h (now (t .entry)) (now (lits .entry))) ⌝ }
 {
     let items = all_items_ok(t, h);
     let literals = ascii::all_printable(lits, tables::wide(h.literals));
-    file::answer(items & literals)
+    file::rule_of(items & literals)
 }

@@ -5,6 +5,7 @@ use mathlib.Core.List.{List}
 use lib.Dec.{leb, eqb}
 use Rattle.counts.specs.Below.{sumBelow}
 use Rattle.tables.specs.declared.Head.{Head}
+use Rattle.tables.specs.Kinds.{typeCH, typePF, lineAbsolute, lineNextPage, lineRelative}
 use Rattle.tables.specs.Table.{typeOf, firstLine, lineCount, lineKind, lineInt}
 
 -- the first line's kind and integer
@@ -34,17 +35,17 @@ span h t i = sumBelow (later h t i) (step h t i)
 
 -- "later lines relative 1 to 99"
 unfoldable pub stepOk : Head → List ℕ → ℕ → Bool
-stepOk h t l = eqb (lineKind h t l) 2 && leb 1 (lineInt h t l) && leb (lineInt h t l) 99
+stepOk h t l = eqb (lineKind h t l) lineRelative && leb 1 (lineInt h t l) && leb (lineInt h t l) 99
 
 abbrev pub laterOk : Head → List ℕ → ℕ → ℕ → Bool
 laterOk h t i k = stepOk h t (laterLine h t i k)
 
--- "First lines: PF absolute only; RH, PH absolute or relative; others any." (kinds: 0 absolute, 1 next page, 2 relative; "An unlisted kind or
+-- "First lines: PF absolute only; RH, PH absolute or relative; others any." ("An unlisted kind or
 -- flag breaks its section's rule")
 abbrev pub kindOk : Head → List ℕ → ℕ → Bool
 kindOk h t i =
-    eqb (kindOf h t i) 0 || eqb (kindOf h t i) 2 && not (eqb (typeOf h t i) 5)
-    || eqb (kindOf h t i) 1 && leb 2 (typeOf h t i) && not (eqb (typeOf h t i) 5)
+    eqb (kindOf h t i) lineAbsolute || eqb (kindOf h t i) lineRelative && not (eqb (typeOf h t i) typePF)
+    || eqb (kindOf h t i) lineNextPage && leb typeCH (typeOf h t i) && not (eqb (typeOf h t i) typePF)
 
 -- "first line integer 1 to 999"
 unfoldable pub firstOk : Head → List ℕ → ℕ → Bool

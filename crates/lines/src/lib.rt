@@ -48,7 +48,7 @@ fn step_ok(t: &[u16], h: Head, at: usize) -> bool
 {
     let kind = tables::line_num(t, h, at, 0);
     let n = tables::line_num(t, h, at, 1);
-    (kind == 2) & (1 <= n) & (n <= 99)
+    (kind == tables::LINE_RELATIVE) & (1 <= n) & (n <= 99)
 }
 
 // Every later line of group `i` may be one.
@@ -76,7 +76,9 @@ pub fn first_ok(t: &[u16], h: Head, i: usize) -> bool
     let group = tables::group_num(t, h, i, 0);
     let kind = first_num(t, h, i, 0);
     let n = first_num(t, h, i, 1);
-    ((kind == 0) | (kind == 2) & (group != 5) | (kind == 1) & (2 <= group) & (group != 5))
+    ((kind == tables::LINE_ABSOLUTE)
+        | (kind == tables::LINE_RELATIVE) & (group != tables::PF)
+        | (kind == tables::LINE_NEXT_PAGE) & (tables::CH <= group) & (group != tables::PF))
         & (1 <= n)
         & (n <= 999)
 }

@@ -5,6 +5,7 @@ use mathlib.Core.List.{List}
 use lib.Dec.{eqb}
 use Rattle.counts.specs.Below.{bit, sumBelow, firstBelow}
 use Rattle.tables.specs.declared.Head.{Head}
+use Rattle.tables.specs.Kinds.{typeDE}
 use Rattle.tables.specs.Table.{typeOf, levelOf}
 
 -- the group of a type and level, or the number of groups where there is none
@@ -16,13 +17,13 @@ theGroup h t type level = firstBelow (h .groups) (isAt h t type level)
 
 -- "Details are numbered in group order": the detail with n details before it, or the number of groups where there is none
 abbrev pub detailBit : Head → List ℕ → ℕ → ℕ
-detailBit h t i = bit (eqb (typeOf h t i) 3)
+detailBit h t i = bit (eqb (typeOf h t i) typeDE)
 
 unfoldable pub details : Head → List ℕ → ℕ
 details h t = sumBelow (h .groups) (detailBit h t)
 
 abbrev pub isDetail : Head → List ℕ → ℕ → ℕ → Bool
-isDetail h t n i = eqb (typeOf h t i) 3 && eqb (sumBelow i (detailBit h t)) n
+isDetail h t n i = eqb (typeOf h t i) typeDE && eqb (sumBelow i (detailBit h t)) n
 
 unfoldable pub theDetail : Head → List ℕ → ℕ → ℕ
 theDetail h t n = firstBelow (h .groups) (isDetail h t n)

@@ -6,11 +6,15 @@ ghost use Rattle.lookup.specs.Shared.{sharedOut};
 ghost use Rattle.lookup.specs.Find.{theGroup, theDetail, details};
 use tables::Head;
 
-// Each entry's share of the next section begins where the ones before it end, and all of it is shared.
-pub fn shared_out(t: &[u16], at: usize, size: usize, n: usize, whole: usize) -> bool
-    requires { ⌜ (at < 65536) × ((size < 8) × (n < 65536)) ⌝ }
-    ensures { λ r. ⌜ r ≡ sharedOut (now (t .entry)) at size n whole ⌝ }
+// Each entry of section `k` has its share of the section behind it begin where the ones before it end, and all of it is shared.
+pub fn shared_out(t: &[u16], h: Head, k: usize) -> bool
+    requires { ⌜ k < 6 ⌝ }
+    ensures { λ r. ⌜ r ≡ sharedOut h (now (t .entry)) k ⌝ }
 {
+    let at = tables::start_of(h, k);
+    let size = tables::words_of(k);
+    let n = tables::count_of(h, k);
+    let whole = tables::count_of(h, k + 1);
     let mut ok = true;
     let mut total = 0;
     let mut i = 0;
@@ -32,7 +36,7 @@ pub fn details_of(t: &[u16], h: Head) -> usize
     let mut i = 0;
     while i < n {
         let kind = tables::group_num(t, h, i, 0);
-        found = found + counts::one_if(kind == 3);
+        found = found + counts::one_if(kind == tables::DE);
         i += 1;
     }
     found
@@ -64,11 +68,11 @@ pub fn find_detail(t: &[u16], h: Head, d: usize) -> usize
     let mut i = 0;
     while i < n {
         let kind = tables::group_num(t, h, i, 0);
-        let this = (kind == 3) & (found == d);
+        let this = (kind == tables::DE) & (found == d);
         if this {
             break;
         }
-        found = found + counts::one_if(kind == 3);
+        found = found + counts::one_if(kind == tables::DE);
         i += 1;
     }
     i

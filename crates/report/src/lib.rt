@@ -22,7 +22,7 @@ ghost use Rattle.state.specs.Kept.{paddedRow};
 ghost use Rattle.report.specs.Calls.{cleared as clearedSpec, breaks, flagsAt, firstWork, laterWork, lastWork, startTried, rowTried, endTried, initiatedOn, generatedOn, terminatedOn, initiate as initiateSpec, generate as generateSpec, terminate as terminateSpec};
 ghost use Rattle.report.specs.Facts.{Stands, RowIn};
 use description::Checked;
-use file::Kept;
+use file::Rule;
 use layout::Pos;
 use pages::Outcome;
 use place::Spot;
@@ -554,7 +554,7 @@ impl Report {
     pub fn initiate(self, d: &[u8]) -> Answer
         ensures { λ r. ⌜ r ≡ initiateSpec (now (d .entry)) self [] .answer ⌝ }
     {
-        let Kept::Yes = file::rule_d1(d) else {
+        let Rule::Passed = file::rule_d1(d) else {
             return refusal(self, Verdict::Description(1));
         };
         let n = tables::numbers_of(d);
@@ -570,7 +570,7 @@ impl Report {
     pub fn generate(self, d: &[u8], detail: usize, rec: &[u8], out: &mut [u8]) -> Answer
         ensures { λ r. ⌜ Returns (generateSpec (now (d .entry)) self detail (now (rec .entry)) (now (out .entry))) r (now (out .exit)) ⌝ }
     {
-        let Kept::Yes = file::rule_d1(d) else {
+        let Rule::Passed = file::rule_d1(d) else {
             return refusal(self, Verdict::Description(1));
         };
         let n = tables::numbers_of(d);
@@ -586,7 +586,7 @@ impl Report {
     pub fn terminate(self, d: &[u8], out: &mut [u8]) -> Answer
         ensures { λ r. ⌜ Returns (terminateSpec (now (d .entry)) self (now (out .entry))) r (now (out .exit)) ⌝ }
     {
-        let Kept::Yes = file::rule_d1(d) else {
+        let Rule::Passed = file::rule_d1(d) else {
             return refusal(self, Verdict::Description(1));
         };
         let n = tables::numbers_of(d);

@@ -8,7 +8,6 @@ ghost use Rattle.report.specs.State.{freshAt};
 ghost use Rattle.report.specs.Calls.{initiate as initiateSpec, generate as generateSpec, terminate as terminateSpec};
 ghost use Rattle.state_bytes.specs.Bytes.{bytesOf, stateOf};
 ghost use Rattle.report_c.specs.Leaves.{Leaves, Tells};
-use description::Checked;
 use report::Answer;
 use report::Report;
 
@@ -18,10 +17,7 @@ pub extern "C" fn bailcurlew_check(d: &[u8]) -> u32
     ensures { λ r. ⌜ r ≡ broken (checked (now (d .entry))) ⌝ }
 {
     let answer = description::check(d);
-    match answer {
-        Checked::Accepted => 0,
-        Checked::Broken(rule) => rule as u32,
-    }
+    answer.extra() as u32
 }
 
 // Tells the answer, and stores the next state where the call was accepted.

@@ -331,8 +331,7 @@ fn record_length(d: &[u8]) -> usize {
     if d.len() < 48 {
         return 0;
     }
-    let h = tables::head_of(d);
-    tables::wide(h.reclen)
+    file::setting_of(d, 6)
 }
 
 // INITIATE, the records, TERMINATE.

@@ -1,25 +1,26 @@
--- The head of the tables: where each section starts in the list of numbers, the entry counts, and the page.
-use Prim.Native.Nat.{ℕ, _/_}
+-- The head of the tables: where each section starts in the table, the entry counts, and the page.
+use Prim.Native.Nat.{ℕ}
 use mathlib.Core.List.{List}
-use Rattle.file.specs.Trailer.{start, count, setting}
+use Rattle.file.specs.Trailer.{count, setting}
 use Rattle.tables.specs.declared.Head.{Head}
+use Rattle.tables.specs.Section.{controlSection, groupSection, lineSection, itemSection, counterSection, addendSection, fieldSection, tableStart}
 
--- "fields, controls, groups, lines, items, counters, addends, literal bytes" are sections 0 to 7; a start counts numbers, not bytes
+-- counts and settings as the trailer has them ("then P, H, FD, LD, FT, line width W, record length R, version"); section 7 is the literal bytes
 abbrev pub headOf : List ℕ → Head
 headOf d = record {
-  cstart = start d 1 / 2;
-  gstart = start d 2 / 2;
-  lstart = start d 3 / 2;
-  istart = start d 4 / 2;
-  kstart = start d 5 / 2;
-  astart = start d 6 / 2;
-  fields = count d 0;
-  controls = count d 1;
-  groups = count d 2;
-  lines = count d 3;
-  items = count d 4;
-  counters = count d 5;
-  addends = count d 6;
+  cstart = tableStart d controlSection;
+  gstart = tableStart d groupSection;
+  lstart = tableStart d lineSection;
+  istart = tableStart d itemSection;
+  kstart = tableStart d counterSection;
+  astart = tableStart d addendSection;
+  fields = count d fieldSection;
+  controls = count d controlSection;
+  groups = count d groupSection;
+  lines = count d lineSection;
+  items = count d itemSection;
+  counters = count d counterSection;
+  addends = count d addendSection;
   literals = count d 7;
   page = setting d 0;
   top = setting d 1;

@@ -1,5 +1,5 @@
--- The list of numbers of a description, and its entries. A number past the end counts as 0.
-use Prim.Native.Nat.{ℕ, _+_, _*_, _/_, _≤_}
+-- The table of a description: the numbers of every section but the literals, and what its entries are.
+use Prim.Native.Nat.{ℕ, _+_, _*_, _≤_}
 use mathlib.Core.List.{List}
 use lib.ListN.{length, getD, take, drop}
 use Rattle.counts.specs.Below.{listBelow}
@@ -7,32 +7,32 @@ use Rattle.file.specs.Number.{num}
 use Rattle.file.specs.Trailer.{start, count}
 use Rattle.tables.specs.declared.Head.{Head}
 use Rattle.tables.specs.declared.Item.{Item}
+use Rattle.tables.specs.Section.{fieldSection, controlSection, groupSection, lineSection, itemSection, counterSection, addendSection, words, tableStart, entryAt, entry}
 
--- every section but the literals has entries of whole numbers, so there are so many numbers before the literals
+-- numbers of the table: the entries of sections 0 to 6
 abbrev pub numbers : List ℕ → ℕ
-numbers d = start d 7 / 2
+numbers d = tableStart d 7
 
--- and number i of them all is the two bytes at 2i
+-- number i of the table is the two bytes at 2i, where a version has whole entries only in these sections, as version 1 has
 unfoldable pub table : List ℕ → List ℕ
 table d = listBelow (numbers d) (λ i. num d (2 * i))
 
--- what D1 gives for reading them: they lie inside the file, and "at most 32 fields, 8 controls, 32 groups, 128 lines, 512 items, 32 counters,
--- 128 addends" are 4392 numbers
+-- "at most 32 fields, 8 controls, 32 groups, 128 lines, 512 items, 32 counters, 128 addends" are so many numbers
+abbrev pub numbersMax : ℕ
+numbersMax = 4392
+
+-- what D1 gives for reading them: they lie inside the file, and are no more than that
 pub record NumbersIn (d : List ℕ) : Type 0 where
-  pub inside : start d 7 ≤ length d
-  pub few : numbers d ≤ 4392
+  pub inside : 2 * numbers d ≤ length d
+  pub few : numbers d ≤ numbersMax
 
 -- the literal bytes
 unfoldable pub literals : List ℕ → List ℕ
 literals d = take (count d 7) (drop (start d 7) d)
 
--- number j of entry i of the section at a place, whose entries have `size` numbers
-abbrev pub numberOf : List ℕ → ℕ → ℕ → ℕ → ℕ → ℕ
-numberOf t at size i j = getD t (at + size * i + j) 0
-
--- "Field: kind (0 text, 1 number), offset, width."
+-- "Field: kind (0 text, 1 number), offset, width." The fields start the table, so no head is asked.
 abbrev pub field : List ℕ → ℕ → ℕ → ℕ
-field t i j = numberOf t 0 3 i j
+field t i j = entryAt t 0 fieldSection i j
 
 abbrev pub fieldKind : List ℕ → ℕ → ℕ
 fieldKind t i = field t i 0
@@ -45,14 +45,14 @@ fieldWidth t i = field t i 2
 
 -- "Control: field index, senior first; 65535 is FINAL."
 abbrev pub control : Head → List ℕ → ℕ → ℕ
-control h t i = numberOf t (h .cstart) 1 i 0
+control h t i = entry h t controlSection i 0
 
 abbrev pub final : ℕ
 final = 65535
 
 -- "Group: type .., level, first line, line count, next-group kind .., its integer."
 abbrev pub group : Head → List ℕ → ℕ → ℕ → ℕ
-group h t i j = numberOf t (h .gstart) 6 i j
+group h t i j = entry h t groupSection i j
 
 abbrev pub typeOf : Head → List ℕ → ℕ → ℕ
 typeOf h t i = group h t i 0
@@ -74,7 +74,7 @@ nextBy h t i = group h t i 5
 
 -- "Line: kind (0 absolute, 1 next page, 2 relative), integer, first item, item count."
 abbrev pub line : Head → List ℕ → ℕ → ℕ → ℕ
-line h t i j = numberOf t (h .lstart) 4 i j
+line h t i j = entry h t lineSection i j
 
 abbrev pub lineKind : Head → List ℕ → ℕ → ℕ
 lineKind h t i = line h t i 0
@@ -91,7 +91,7 @@ itemCount h t i = line h t i 3
 -- "Item: column, width, source kind (0 literal, 1 field, 2 page counter, 3 line counter, 4 sum), index (for a literal, its offset), decimals,
 -- indicate flag 0 or 1."
 abbrev pub item : Head → List ℕ → ℕ → ℕ → ℕ
-item h t i j = numberOf t (h .istart) 6 i j
+item h t i j = entry h t itemSection i j
 
 abbrev pub itemColumn : Head → List ℕ → ℕ → ℕ
 itemColumn h t i = item h t i 0
@@ -123,11 +123,11 @@ itemAt t at = record {
 }
 
 abbrev pub itemOf : Head → List ℕ → ℕ → Item
-itemOf h t i = itemAt t (h .istart + 6 * i)
+itemOf h t i = itemAt t (h .istart + words itemSection * i)
 
 -- "Counter: group, reset level, first addend, addend count."
 abbrev pub counter : Head → List ℕ → ℕ → ℕ → ℕ
-counter h t i j = numberOf t (h .kstart) 4 i j
+counter h t i j = entry h t counterSection i j
 
 abbrev pub counterGroup : Head → List ℕ → ℕ → ℕ
 counterGroup h t i = counter h t i 0
@@ -143,7 +143,7 @@ addendCount h t i = counter h t i 3
 
 -- "Addend: kind (0 field, 1 counter), index, detail mask (bit i for detail i)."
 abbrev pub addend : Head → List ℕ → ℕ → ℕ → ℕ
-addend h t i j = numberOf t (h .astart) 3 i j
+addend h t i j = entry h t addendSection i j
 
 abbrev pub addendKind : Head → List ℕ → ℕ → ℕ
 addendKind h t i = addend h t i 0

@@ -1,13 +1,92 @@
 // The tables of a description: one list of the numbers of every section but the literals, and a head with starts, counts and page.
 ghost use mathlib.Core.Path.{_≡_};
-ghost use Prim.Native.Nat.{_+_, _*_, _/_, _≤_, _<_};
+ghost use mathlib.Core.Bool.{true};
+ghost use Prim.Native.Nat.{_+_, _*_, _≤_, _<_};
 ghost use lib.ListN.{length, getD};
 ghost use Rattle.file.specs.Number.{Reads};
-ghost use Rattle.file.specs.Trailer.{start, count, setting};
+ghost use Rattle.file.specs.Trailer.{HasTrailer, count, setting};
+ghost use Rattle.file.specs.Sections.{ruleD1};
+ghost use Rattle.tables.specs.Section.{words, tableStart, startOf, countOf, entry};
 ghost use Rattle.tables.specs.Head.{headOf};
-ghost use Rattle.tables.specs.Table.{NumbersIn, numbers, table, numberOf, field, control, group, line, item, itemAt, itemOf, counter, addend};
+ghost use Rattle.tables.specs.Table.{NumbersIn, numbers, table, field, control, group, line, item, itemAt, itemOf, counter, addend};
 
-// Section starts (in numbers of the table; fields start at 0), entry counts, and P, H, FD, LD, FT, W, R and the version.
+// The sections of the table, in the file's order; the literal bytes are section 7 of the file.
+pub const FIELDS: usize = 0;
+
+pub const CONTROLS: usize = 1;
+
+pub const GROUPS: usize = 2;
+
+pub const LINES: usize = 3;
+
+pub const ITEMS: usize = 4;
+
+pub const COUNTERS: usize = 5;
+
+pub const ADDENDS: usize = 6;
+
+// Numbers of an entry of each section in the table.
+const WORDS: [usize; 7] = [3, 1, 6, 4, 6, 4, 3];
+
+// The most numbers of a table.
+pub const NUMBERS_MAX: usize = 4392;
+
+// Kinds of fields, and FINAL.
+pub const FIELD_TEXT: usize = 0;
+
+pub const FIELD_NUMBER: usize = 1;
+
+pub const FINAL: usize = 65535;
+
+// Types of groups.
+pub const RH: usize = 0;
+
+pub const PH: usize = 1;
+
+pub const CH: usize = 2;
+
+pub const DE: usize = 3;
+
+pub const CF: usize = 4;
+
+pub const PF: usize = 5;
+
+pub const RF: usize = 6;
+
+// Next-group kinds.
+pub const NEXT_NONE: usize = 0;
+
+pub const NEXT_ABSOLUTE: usize = 1;
+
+pub const NEXT_RELATIVE: usize = 2;
+
+pub const NEXT_PAGE: usize = 3;
+
+// Kinds of lines.
+pub const LINE_ABSOLUTE: usize = 0;
+
+pub const LINE_NEXT_PAGE: usize = 1;
+
+pub const LINE_RELATIVE: usize = 2;
+
+// Source kinds of items.
+pub const SOURCE_LITERAL: usize = 0;
+
+pub const SOURCE_FIELD: usize = 1;
+
+pub const SOURCE_PAGE: usize = 2;
+
+pub const SOURCE_LINE: usize = 3;
+
+pub const SOURCE_SUM: usize = 4;
+
+// Kinds of addends.
+pub const ADDEND_FIELD: usize = 0;
+
+pub const ADDEND_COUNTER: usize = 1;
+
+// Section starts (in numbers of the table; fields start at 0), entry counts, and P, H, FD, LD, FT, W, R and the version,
+// which only the limits of D2 go by.
 pub struct Head {
     pub cstart: u16,
     pub gstart: u16,
@@ -46,45 +125,67 @@ pub struct Item {
 // What a table holds before its numbers are put in. Two bytes that differ: of equal ones LLVM makes a call of memset.
 pub const UNSET: u16 = 1;
 
-fn start16(d: &[u8], k: usize) -> u16
-    requires { ⌜ (48 ≤ length (now d)) × (k < 8) ⌝ }
-    ensures { λ r. ⌜ r ≡ start (now (d .entry)) k / 2 ⌝ }
+pub fn wide(x: u16) -> usize
+    ensures { λ r. ⌜ Reads x r ⌝ }
 {
-    (file::start_of(d, k) / 2) as u16
+    x as usize
+}
+
+// Numbers of an entry of section `k`.
+pub fn words_of(k: usize) -> usize
+    requires { ⌜ k < 7 ⌝ }
+    ensures { λ r. ⌜ (r ≡ words k) × (r < 8) ⌝ }
+{
+    WORDS[k]
+}
+
+// Where the section behind section `k` starts in the table, `k` itself starting at `at`.
+fn start_behind(d: &[u8], k: usize, at: u16) -> u16
+    requires { ⌜ (ruleD1 (now d) ≡ true) × ((k < 7) × (at ≡ tableStart (now d) k)) ⌝ }
+    ensures { λ r. ⌜ r ≡ tableStart (now (d .entry)) (k + 1) ⌝ }
+{
+    (wide(at) + words_of(k) * file::count_of(d, k)) as u16
 }
 
 fn count16(d: &[u8], k: usize) -> u16
-    requires { ⌜ (48 ≤ length (now d)) × (k < 8) ⌝ }
+    requires { ⌜ HasTrailer (now d) × (k < 8) ⌝ }
     ensures { λ r. ⌜ r ≡ count (now (d .entry)) k ⌝ }
 {
     file::count_of(d, k) as u16
 }
 
 fn setting16(d: &[u8], j: usize) -> u16
-    requires { ⌜ (48 ≤ length (now d)) × (j < 8) ⌝ }
+    requires { ⌜ HasTrailer (now d) × (j < 8) ⌝ }
     ensures { λ r. ⌜ r ≡ setting (now (d .entry)) j ⌝ }
 {
     file::setting_of(d, j) as u16
 }
 
+// The head of a description that passes D1.
 pub fn head_of(d: &[u8]) -> Head
-    requires { ⌜ 48 ≤ length (now d) ⌝ }
+    requires { ⌜ ruleD1 (now d) ≡ true ⌝ }
     ensures { λ r. ⌜ r ≡ headOf (now (d .entry)) ⌝ }
 {
+    let controls_at = start_behind(d, FIELDS, 0);
+    let groups_at = start_behind(d, CONTROLS, controls_at);
+    let lines_at = start_behind(d, GROUPS, groups_at);
+    let items_at = start_behind(d, LINES, lines_at);
+    let counters_at = start_behind(d, ITEMS, items_at);
+    let addends_at = start_behind(d, COUNTERS, counters_at);
     Head {
-        cstart: start16(d, 1),
-        gstart: start16(d, 2),
-        lstart: start16(d, 3),
-        istart: start16(d, 4),
-        kstart: start16(d, 5),
-        astart: start16(d, 6),
-        fields: count16(d, 0),
-        controls: count16(d, 1),
-        groups: count16(d, 2),
-        lines: count16(d, 3),
-        items: count16(d, 4),
-        counters: count16(d, 5),
-        addends: count16(d, 6),
+        cstart: controls_at,
+        gstart: groups_at,
+        lstart: lines_at,
+        istart: items_at,
+        kstart: counters_at,
+        astart: addends_at,
+        fields: count16(d, FIELDS),
+        controls: count16(d, CONTROLS),
+        groups: count16(d, GROUPS),
+        lines: count16(d, LINES),
+        items: count16(d, ITEMS),
+        counters: count16(d, COUNTERS),
+        addends: count16(d, ADDENDS),
         literals: count16(d, 7),
         page: setting16(d, 0),
         top: setting16(d, 1),
@@ -97,9 +198,9 @@ pub fn head_of(d: &[u8]) -> Head
     }
 }
 
-// How many numbers stand before the literals.
+// How many numbers the table of a description that passes D1 has: all that stand before the literals.
 pub fn numbers_of(d: &[u8]) -> usize
-    requires { ⌜ 48 ≤ length (now d) ⌝ }
+    requires { ⌜ ruleD1 (now d) ≡ true ⌝ }
     ensures { λ r. ⌜ r ≡ numbers (now (d .entry)) ⌝ }
 {
     file::start_of(d, 7) / 2
@@ -119,12 +220,6 @@ pub fn unpack(d: &[u8], t: &mut [u16])
     }
 }
 
-pub fn wide(x: u16) -> usize
-    ensures { λ r. ⌜ Reads x r ⌝ }
-{
-    x as usize
-}
-
 // A number of the table, or 0 past the end.
 fn short_at(t: &[u16], at: usize) -> u16
     ensures { λ r. ⌜ r ≡ getD (now (t .entry)) at 0 ⌝ }
@@ -138,47 +233,88 @@ fn num_at(t: &[u16], at: usize) -> usize
     wide(short_at(t, at))
 }
 
-// Number `j` of entry `i` of a section.
+// Number `j` of entry `i` of a section that starts at `at`, with entries of `size` numbers.
 pub fn number_of(t: &[u16], at: usize, size: usize, i: usize, j: usize) -> usize
     requires { ⌜ (at < 65536) × ((size < 8) × ((i < 1048576) × (j < 8))) ⌝ }
-    ensures { λ r. ⌜ Reads (numberOf (now (t .entry)) at size i j) r ⌝ }
+    ensures { λ r. ⌜ Reads (getD (now (t .entry)) (at + size * i + j) 0) r ⌝ }
 {
     num_at(t, at + size * i + j)
+}
+
+// Where section `k` starts, and how many entries it has.
+pub fn start_of(h: Head, k: usize) -> usize
+    requires { ⌜ k < 7 ⌝ }
+    ensures { λ r. ⌜ Reads (startOf h k) r ⌝ }
+{
+    let starts = [
+        0,
+        h.cstart,
+        h.gstart,
+        h.lstart,
+        h.istart,
+        h.kstart,
+        h.astart,
+    ];
+    wide(starts[k])
+}
+
+pub fn count_of(h: Head, k: usize) -> usize
+    requires { ⌜ k < 7 ⌝ }
+    ensures { λ r. ⌜ Reads (countOf h k) r ⌝ }
+{
+    let counts = [
+        h.fields,
+        h.controls,
+        h.groups,
+        h.lines,
+        h.items,
+        h.counters,
+        h.addends,
+    ];
+    wide(counts[k])
+}
+
+// Number `j` of entry `i` of section `k`.
+pub fn entry_num(t: &[u16], h: Head, k: usize, i: usize, j: usize) -> usize
+    requires { ⌜ (k < 7) × ((i < 1048576) × (j < 8)) ⌝ }
+    ensures { λ r. ⌜ Reads (entry h (now (t .entry)) k i j) r ⌝ }
+{
+    number_of(t, start_of(h, k), words_of(k), i, j)
 }
 
 pub fn field_num(t: &[u16], i: usize, j: usize) -> usize
     requires { ⌜ (i < 1048576) × (j < 8) ⌝ }
     ensures { λ r. ⌜ Reads (field (now (t .entry)) i j) r ⌝ }
 {
-    number_of(t, 0, 3, i, j)
+    number_of(t, 0, words_of(FIELDS), i, j)
 }
 
 pub fn control_num(t: &[u16], h: Head, i: usize) -> usize
     requires { ⌜ i < 1048576 ⌝ }
     ensures { λ r. ⌜ Reads (control h (now (t .entry)) i) r ⌝ }
 {
-    number_of(t, wide(h.cstart), 1, i, 0)
+    entry_num(t, h, CONTROLS, i, 0)
 }
 
 pub fn group_num(t: &[u16], h: Head, i: usize, j: usize) -> usize
     requires { ⌜ (i < 1048576) × (j < 8) ⌝ }
     ensures { λ r. ⌜ Reads (group h (now (t .entry)) i j) r ⌝ }
 {
-    number_of(t, wide(h.gstart), 6, i, j)
+    entry_num(t, h, GROUPS, i, j)
 }
 
 pub fn line_num(t: &[u16], h: Head, i: usize, j: usize) -> usize
     requires { ⌜ (i < 1048576) × (j < 8) ⌝ }
     ensures { λ r. ⌜ Reads (line h (now (t .entry)) i j) r ⌝ }
 {
-    number_of(t, wide(h.lstart), 4, i, j)
+    entry_num(t, h, LINES, i, j)
 }
 
 pub fn item_num(t: &[u16], h: Head, i: usize, j: usize) -> usize
     requires { ⌜ (i < 1048576) × (j < 8) ⌝ }
     ensures { λ r. ⌜ Reads (item h (now (t .entry)) i j) r ⌝ }
 {
-    number_of(t, wide(h.istart), 6, i, j)
+    entry_num(t, h, ITEMS, i, j)
 }
 
 // The six numbers at a place, none of them past the end.
@@ -216,7 +352,7 @@ pub fn item_of(t: &[u16], h: Head, i: usize) -> Item
     requires { ⌜ i < 1048576 ⌝ }
     ensures { λ r. ⌜ r ≡ itemOf h (now (t .entry)) i ⌝ }
 {
-    let at = wide(h.istart) + 6 * i;
+    let at = wide(h.istart) + words_of(ITEMS) * i;
     if at + 6 <= t.len() {
         item_inside(t, at)
     } else {
@@ -228,12 +364,12 @@ pub fn counter_num(t: &[u16], h: Head, i: usize, j: usize) -> usize
     requires { ⌜ (i < 1048576) × (j < 8) ⌝ }
     ensures { λ r. ⌜ Reads (counter h (now (t .entry)) i j) r ⌝ }
 {
-    number_of(t, wide(h.kstart), 4, i, j)
+    entry_num(t, h, COUNTERS, i, j)
 }
 
 pub fn addend_num(t: &[u16], h: Head, i: usize, j: usize) -> usize
     requires { ⌜ (i < 1048576) × (j < 8) ⌝ }
     ensures { λ r. ⌜ Reads (addend h (now (t .entry)) i j) r ⌝ }
 {
-    number_of(t, wide(h.astart), 3, i, j)
+    entry_num(t, h, ADDENDS, i, j)
 }

@@ -7,7 +7,7 @@ use native.Mathlib.Omega.{arith}
 use borrow.Author.Needs.{needs}
 use borrow.Author.Tests.{not-true, not-false}
 use lib.Dec.{leb}
-use Rattle.tables.specs.Table.{firstAddend, addendCount}
+use Rattle.tables.specs.Table.{firstAddend}
 use Rattle.counts.specs.Below.{allBelow}
 use Rattle.counts.proofs.Laws.{all-next}
 use Rattle.counters.specs.Counters.{newAddend, ownAddendOk, addendsOk}

@@ -5,7 +5,7 @@ use mathlib.Core.Path.{sym, _∙_}
 use native.Mathlib.Omega.{arith}
 use borrow.Author.Needs.{needs}
 use Rattle.file.proofs.Laws.{passed, failed}
-use Rattle.tables.proofs.Says.{long, numbers-in}
+use Rattle.tables.proofs.Says.{numbers-in}
 use Rattle.description.proofs.Answer.{answers, d1-broken, front}
 use Rattle.description.proofs.check.Statement.{statement}
 use Rattle.description.proofs.check.Tie as tie
@@ -25,7 +25,7 @@ check-spec =
     (λ c. search needs)
     (λ c. search needs)
     returns
-    (λ c κs. long _ (passed (c .before .before .rule-d1 .ensures) (c .enum-told .given .1)))
+    (λ c κs. passed (c .before .before .rule-d1 .ensures) (c .enum-told .given .1))
     fits
     (λ c. sym (front _ 4392 1 (fits (c .before))))
     (λ c κs. (passed (c .before .before .before .before .rule-d1 .ensures) (c .before .before .enum-told .given .1), front _ 4392 1 (fits (c .before)) ∙ c .before .numbers-of .ensures))

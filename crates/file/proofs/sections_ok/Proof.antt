@@ -11,10 +11,10 @@ use Rattle.file.proofs.sections_ok.Statement.{statement}
 use Rattle.file.proofs.sections_ok.Tie as tie
 
 abbrev Inv-loop : tie.InvT-loop
-Inv-loop d ok₀ k₀ ok k = (k ≤ 8) × (ok ≡ allBelow k (sectionOk d))
+Inv-loop d n ok₀ k₀ ok k = (k ≤ n) × (ok ≡ allBelow k (sectionOk d))
 
 abbrev μ-loop : tie.MeasureT-loop
-μ-loop d ok₀ k₀ ok k = 8 - k
+μ-loop d n ok₀ k₀ ok k = n - k
 
 loop-holds : tie.Need-loop-holds Inv-loop μ-loop
 unfolding allBelow
@@ -31,4 +31,4 @@ returns c =
 pub sections-ok-spec : {M : Type 1} → statement M
 sections-ok-spec =
     tie.close
-    (tie.spec Inv-loop μ-loop loop-holds (λ c κs. omega arith) (λ c. omega arith) (λ c. omega arith) loop-again returns)
+    (tie.spec Inv-loop μ-loop (λ c κs. search needs) (λ c κs. search needs) loop-holds (λ c κs. omega arith) (λ c. omega arith) (λ c. omega arith) loop-again returns)

@@ -5,7 +5,7 @@ use mathlib.Core.Path.{sym, _∙_}
 use native.Mathlib.Omega.{arith}
 use borrow.Author.Needs.{needs}
 use Rattle.file.proofs.Laws.{passed, failed}
-use Rattle.tables.proofs.Says.{long, numbers-in}
+use Rattle.tables.proofs.Says.{numbers-in}
 use Rattle.description.proofs.Answer.{d1-broken, front}
 use Rattle.report.proofs.Works.{terminate-broken}
 use Rattle.report.proofs.Report.terminate.Statement.{statement}
@@ -27,7 +27,7 @@ terminate-spec =
     (λ c. search needs)
     (λ c κs. search needs)
     returns
-    (λ c κs. long _ (passed (c .before .before .rule-d1 .ensures) (c .enum-told .given .1)))
+    (λ c κs. passed (c .before .before .rule-d1 .ensures) (c .enum-told .given .1))
     (λ c. search needs)
     (λ c. sym (front _ 512 1 (c .before .if1 .taken)))
     (λ c κs. (passed (c .before .before .before .before .before .before .rule-d1 .ensures) (c .before .before .before .before .enum-told .given .1), front _ 512 1 (c .before .before .if1 .taken) ∙ c .before .before .before .numbers-of .ensures))
