@@ -11,7 +11,8 @@ use Rattle.layout.specs.Layout.{Due}
 use Rattle.pagination.specs.All.{All}
 use Rattle.pagination.specs.Turns.{Chain, Behind, bodies, UpToTwo}
 use Rattle.pagination.proofs.Climbs.{all-map}
-use Rattle.pagination.proofs.Turns.{lastOf, pages-in, Walk}
+use Rattle.pagination.specs.Claims.{lastOf, Walk}
+use Rattle.pagination.proofs.Turns.{pages-in}
 use Rattle.report.specs.declared.Report.{Report}
 use Rattle.book.specs.Book.{Book}
 
