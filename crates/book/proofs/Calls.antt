@@ -27,15 +27,15 @@ use Rattle.sums.proofs.Range.{getD-set}
 use Rattle.amounts.specs.Totals.{totalsLast}
 use Rattle.compose.specs.Items.{Inputs}
 use Rattle.compose.specs.Facts.{ItemsIn}
-use Rattle.plan.specs.Plan.{turns, firstPlan, laterPlan, lastPlan}
-use Rattle.layout.specs.Layout.{Due, placeAll, layout}
+use Rattle.plan.specs.Plan.{firstPlan, laterPlan, lastPlan}
+use Rattle.layout.specs.declared.Pos.{Pos}
+use Rattle.layout.specs.Layout.{layout}
 use Rattle.pages.specs.Outcome.{lastPage}
 use Rattle.pages.proofs.Bytes.{in-layout}
 use Rattle.pagination.specs.Rising.{rank}
 use Rattle.pagination.specs.Claims.{rankAt, Placed, Closed}
 use Rattle.pagination.proofs.Groups.{sound-none}
 use Rattle.pagination.proofs.Calls.{DetailOk, first-placed, later-placed, last-placed, detail-is}
-use Rattle.pagination.proofs.Turns.{Walk, Paged, first-paged, later-paged, last-paged}
 use Rattle.state.specs.Rules.{idle, started, running}
 use Rattle.state.specs.Kept.{flagsSet}
 use Rattle.report.specs.declared.Report.{Report}
@@ -140,9 +140,6 @@ module _ (d : List ℕ) (accepts : checked d ≡ Accepted) (A : facts.Accepted (
         placed1 : Placed h t (b .report) (placeOf s) (w1 .laid)
         placed1 = rw laid1 (first-placed h t (b .report) (A .pageFits) (firstPlan h (theDetail h t i)) (placeOf s) detail-ok (ap (λ (x : Report). x .page) fresh) (ap (λ (x : Report). x .line) fresh))
 
-        paged1 : Paged h t (placeOf s) (w1 .laid)
-        paged1 = rw laid1 (first-paged h t (b .report) (A .pageFits) (firstPlan h (theDetail h t i)) (placeOf s) detail-ok (ap (λ (x : Report). x .page) fresh))
-
         same1 : w1 .laid ≡ dueFor h t (b .row) call (b .pos)
         same1 = rw (T .begins e .1, T .place) laid1
 
@@ -188,7 +185,7 @@ module _ (d : List ℕ) (accepts : checked d ≡ Accepted) (A : facts.Accepted (
 
         pub first-ok : Ok d Tracks s b call (w1 .inputs) (settled h t s w1 out)
         first-ok = settled-ok d Tracks b call (w1 .inputs) s out T w1 same1 refl items1 (rw laid1 (in-layout h t true (firstPlan h (theDetail h t i)) false (placeOf s))) (rw (T .place) (placed1 .sound)) refl refl
-            (λ q. absurd (omega arith)) (rw (T .place) (omega (arith, ap (λ (x : Report). x .page) fresh))) _ (rw (T .place) paged1) (inr refl) next1
+            (λ q. absurd (omega arith)) (rw (T .place) (omega (arith, ap (λ (x : Report). x .page) fresh))) _ (rw (T .place) (placed1 .paged)) (inr refl) next1
 
       -- a later row
       module _ (e : s .phase ≡ 2) where
@@ -210,9 +207,6 @@ module _ (d : List ℕ) (accepts : checked d ≡ Accepted) (A : facts.Accepted (
 
         placed2 : Placed h t (b .report) (placeOf s) (w2 .laid)
         placed2 = rw laid2 (later-placed h t (b .report) (A .pageFits) (laterPlan h level (theDetail h t i)) (placeOf s) detail-ok (facts2 .spot))
-
-        paged2 : Paged h t (placeOf s) (w2 .laid)
-        paged2 = rw laid2 (later-paged h t (b .report) (A .pageFits) (laterPlan h level (theDetail h t i)) (placeOf s) detail-ok)
 
         -- the book finds the break against its own row
         same2 : w2 .laid ≡ dueFor h t (b .row) call (b .pos)
@@ -264,7 +258,7 @@ module _ (d : List ℕ) (accepts : checked d ≡ Accepted) (A : facts.Accepted (
 
         pub later-ok : Ok d Tracks s b call (w2 .inputs) (settled h t s w2 out)
         later-ok = settled-ok d Tracks b call (w2 .inputs) s out T w2 same2 refl items2 (rw laid2 (in-layout h t false (laterPlan h level (theDetail h t i)) false (placeOf s))) (rw (T .place) (placed2 .sound)) refl refl
-            (λ q. absurd (omega arith)) (rw (T .place) (facts2 .page1)) _ (rw (T .place) paged2) (inr refl) next2
+            (λ q. absurd (omega arith)) (rw (T .place) (facts2 .page1)) _ (rw (T .place) (placed2 .paged)) (inr refl) next2
 
       -- the row's work, by phase
       row-ok : (eqb (s .phase) idle ≡ false) → Ok d Tracks s b call (rowWork h t (literals d) s i row .inputs) (settled h t s (rowWork h t (literals d) s i row) out)
@@ -322,13 +316,6 @@ module _ (d : List ℕ) (accepts : checked d ≡ Accepted) (A : facts.Accepted (
       unfolding lastWork
       phase3 = refl
 
-      -- the page of the last body group
-      abbrev page3 : ℕ
-      page3 = placeAll h t (turns h t (lastPlan h)) (placeOf s) .to .page
-
-      walk3 : (u w : Due) → u .page ≡ s .page → w .page ≡ s .page → Walk h t u w (w3 .laid .dues) (w3 .laid .to .page) page3
-      walk3 = rw laid3 (last-paged h t (b .report) (A .pageFits) (placeOf s))
-
       same3 : w3 .laid ≡ dueFor h t (b .row) terminate (b .pos)
       same3 = rw (T .goes e .1, T .place) laid3
 
@@ -355,8 +342,9 @@ module _ (d : List ℕ) (accepts : checked d ≡ Accepted) (A : facts.Accepted (
 
       pub last-ok : Ok d Tracks s b terminate (w3 .inputs) (settled h t s w3 out)
       last-ok =
+          let page-is : b .pos .page ≡ s .page = ap (λ (x : Pos). x .page) (T .place) in
           settled-ok d Tracks b terminate (w3 .inputs) s out T w3 same3 refl items3 (rw laid3 (in-layout h t false (lastPlan h) true (placeOf s))) (rw (T .place) (closed3 .sound)) refl refl
-          (λ q. absurd (omega arith)) (rw (T .place) (facts3 .page1)) page3 (rw (T .place) walk3) (inl phase3)
+          (λ q. absurd (omega arith)) (rw (T .place) (facts3 .page1)) (closed3 .bodyPage) (λ u v m n. closed3 .paged u v (m ∙ page-is) (n ∙ page-is)) (inl phase3)
           (λ o l. idle-tracks (moved w3 (w3 .laid .to)) _ phase3 (idle3 l) long3 refl)
 
     pub terminate-ok : Ok d Tracks s b terminate (reads d s terminate) (answer d s terminate out)

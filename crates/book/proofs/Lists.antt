@@ -21,9 +21,9 @@ use Rattle.pagination.specs.All.{All}
 use Rattle.pagination.specs.Rising.{Climb, spotsOf}
 use Rattle.pagination.specs.Parts.{InPart}
 use Rattle.pagination.specs.Turns.{noGroup, Behind, bodies, UpToTwo}
-use Rattle.pagination.specs.Claims.{rankAt}
+use Rattle.pagination.specs.Claims.{rankAt, lastOf}
 use Rattle.pagination.proofs.Climbs.{all-append, climb-append, rises}
-use Rattle.pagination.proofs.Turns.{lastOf, chain-append, bodies-append}
+use Rattle.pagination.proofs.Turns.{chain-append, bodies-append}
 use Rattle.pages.specs.Outcome.{lastPage}
 use Rattle.report.specs.declared.Report.{Report}
 use Rattle.report.specs.State.{freshAt}

@@ -11,7 +11,8 @@ use Rattle.layout.specs.Layout.{Due}
 use Rattle.pagination.specs.All.{All}
 use Rattle.pagination.specs.Turns.{Chain, Behind, bodies, UpToTwo}
 use Rattle.pagination.proofs.Climbs.{all-map}
-use Rattle.pagination.proofs.Turns.{lastOf, pages-in, Walk}
+use Rattle.pagination.specs.Claims.{lastOf, Walk}
+use Rattle.pagination.proofs.Turns.{pages-in}
 use Rattle.report.specs.declared.Report.{Report}
 use Rattle.book.specs.Book.{Book}
 
@@ -28,7 +29,7 @@ led-next s b u w e f (inl o) g = inl o
 led-next s b u w e f (inr o) g = inr (e, f ∙ o ∙ sym g)
 
 module _ (h : Head) (t : List ℕ) where
-  -- groups due behind u, of which w is the last body group
+  -- groups due behind u, where w is the last body group before them
   abbrev pub Follow : Due → Due → List Due → Type 0
   Follow u w us = Chain (Behind h t) u us × Chain UpToTwo w (bodies h t us)
 

@@ -24,9 +24,8 @@ use Rattle.pages.specs.Bytes.{dueBytes, byteCount}
 use Rattle.pages.proofs.Bytes.{GroupsIn, printed-part}
 use Rattle.pages.specs.Outcome.{lastPage, pastLast, tooShort, outcome, written}
 use Rattle.pagination.specs.All.{All}
-use Rattle.pagination.specs.Claims.{Sound, rankAt}
+use Rattle.pagination.specs.Claims.{Sound, rankAt, Walk}
 use Rattle.pagination.proofs.Climbs.{all-map}
-use Rattle.pagination.proofs.Turns.{Walk}
 use Rattle.pagination.proofs.Groups.{sound-none}
 use Rattle.report.specs.declared.Report.{Report}
 use Rattle.report.specs.declared.Verdict.{Verdict}

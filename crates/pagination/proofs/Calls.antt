@@ -28,6 +28,7 @@ use Rattle.pagination.specs.Facts.{PageFits}
 use Rattle.pagination.specs.Claims.{Sound, rankAt, Placed, Closed}
 use Rattle.pagination.proofs.Climbs.{all-append}
 use Rattle.pagination.proofs.Groups.{sound-none, sound-append, heading-sound, type-is}
+use Rattle.pagination.proofs.Turns.{paged-after, opening-paged, own-closing, below-closing}
 use Rattle.pagination.proofs.Lands.{footing-part, page-heading-part, report-heading-part, TurnOk, all-placed, placed-none, placed-after}
 
 module _ (h : Head) (t : List ℕ) (r : ℕ) (fits : PageFits h t) where
@@ -97,6 +98,7 @@ module _ (h : Head) (t : List ℕ) (r : ℕ) (fits : PageFits h t) where
             (λ p. let z = report-heading-part h t rh (type-is h t 0 0 p) in (omega (arith, z .0), omega (arith, z .1))))
             (exact ph 1 (phAt h t) x false (rank r 1 x) (headEnd h t + 1) (h .fd - 1) (λ p. let z = fits .phStands p in (omega (arith, z .0), omega (arith, z .1))) (omega (arith, m)) (omega arith)
             (λ p. let z = page-heading-part h t ph (type-is h t 1 0 p) in (omega (arith, z .0, v), omega (arith, z .1))));
+        paged = opening-paged h t s e1;
         running = fresh-running (frameOf h t) y (omega (arith, k, fits .top1, fits .topFd));
         pages = omega arith;
       }
@@ -159,6 +161,8 @@ module _ (h : Head) (t : List ℕ) (r : ℕ) (fits : PageFits h t) where
         rw e
         (record {
           sound = sound-append h t r (rankAt r s) (rank r (s .page) foot) _ (dueOf h t (pageFooting h t) true (s .page) (pfAt h t) 0) (dueOf h t (reportFooting h t) true (s .page + 1) (rfAt h t) 0) pf-closes (own-closes e);
+          bodyPage = s .page;
+          paged = λ u w q f. own-closing h t s u w q f e;
           line = rf-line 0 (omega arith);
           saved = saved-in;
           pages = omega arith;
@@ -170,6 +174,8 @@ module _ (h : Head) (t : List ℕ) (r : ℕ) (fits : PageFits h t) where
         rw e
         (record {
           sound = sound-append h t r (rankAt r s) (rank r (s .page) foot) _ (dueOf h t (pageFooting h t) true (s .page) (pfAt h t) 0) (dueOf h t (reportFooting h t) true (s .page) (rfAt h t) 0) pf-closes (below-closes e);
+          bodyPage = s .page;
+          paged = below-closing h t s;
           line = rf-line foot foot-page;
           saved = saved-in;
           pages = omega arith;
@@ -180,7 +186,7 @@ module _ (h : Head) (t : List ℕ) (r : ℕ) (fits : PageFits h t) where
 
   -- ---- the calls
   -- TERMINATE's plan has no detail
-  pub no-detail : DetailOk (h .groups)
+  no-detail : DetailOk (h .groups)
   no-detail p = let z : h .groups < h .groups = ltb-true _ _ (and-l (ltb (h .groups) (h .groups)) (ltb 0 (lineCount h t (h .groups))) p) in absurd (omega arith)
 
   body : (p : Plan) (s : Pos) → DetailOk (p .detail) → Running (frameOf h t) (s .spot) → Placed h t r s (after (placeAll h t (turns h t p) s) (nothing (placeAll h t (turns h t p) s .to)))
@@ -204,6 +210,8 @@ module _ (h : Head) (t : List ℕ) (r : ℕ) (fits : PageFits h t) where
       let w = closing-placed (a .to) (v .running) in
       record {
         sound = sound-append h t r (rankAt r s) (rankAt r (a .to)) (rankAt r (closing h t (a .to) .to)) (a .dues) (closing h t (a .to) .dues) (v .sound) (w .sound);
+        bodyPage = w .bodyPage;
+        paged = paged-after h t s a (closing h t (a .to)) (w .bodyPage) (v .paged) (w .paged);
         line = w .line;
         saved = w .saved;
         pages = omega (arith, v .pages, w .pages);

@@ -18,7 +18,7 @@ use Rattle.place.specs.declared.Landing.{Landing}
 use Rattle.place.specs.declared.Next.the-variants as next
 use Rattle.place.specs.Place.{landing, followed}
 use Rattle.place.specs.Rules.{NextIn, Running}
-use Rattle.place.proofs.Within.{within, rises, line-le, followed-ge, kept-running}
+use Rattle.place.proofs.Within.{within, rises, at-most-two, line-le, followed-ge, kept-running}
 use Rattle.shape.specs.Shape.{bodyOf, nextOf, frameOf}
 use Rattle.plan.specs.declared.Turn.{Turn}
 use Rattle.layout.specs.declared.Pos.{Pos}
@@ -29,6 +29,7 @@ use Rattle.pagination.specs.Parts.{partFrom, partTo}
 use Rattle.pagination.specs.Facts.{PageFits}
 use Rattle.pagination.specs.Claims.{Sound, rankAt, Placed}
 use Rattle.pagination.proofs.Groups.{sound-none, sound-append, sound-wider, heading-sound, body-sound, type-is}
+use Rattle.pagination.proofs.Turns.{paged-none, paged-after, body-walk}
 
 three : (n : ℕ) → n ≤ 4 → (n ≡ 4 → ⊥) → n ≤ 3
 three n l e = ⊎-elim (λ (q : n ≡ 4). absurd (e q)) (λ (q : n < 4). omega arith) (eq-or-lt-of-le l)
@@ -151,16 +152,18 @@ module _ (h : Head) (t : List ℕ) (r : ℕ) (fits : PageFits h t) where
         rw p
         (record {
           sound = sound-wider h t r lo (rank r c x) _ _ (omega (arith, grow)) (sound-append h t r lo m (rank r c x) (pageChanges h t (d .kept) (lands .changes) (s .page)) (dueOf h t g (d .kept) c (lands .at) (lands .changes)) a b);
+          paged = λ u w e f. body-walk h t (lands .changes) (d .kept) (s .page) g (lands .at) u w p k (at-most-two (frameOf h t) (bodyOf h t g) (s .spot)) e f;
           running = leaves;
           pages = omega arith;
         })
 
   pub placed-none : (s : Pos) → Running (frameOf h t) (s .spot) → Placed h t r s (record { dues = []; to = s })
-  placed-none s run = record { sound = sound-none h t r (rankAt r s) (rankAt r s) (omega arith); running = run; pages = omega arith }
+  placed-none s run = record { sound = sound-none h t r (rankAt r s) (rankAt r s) (omega arith); paged = paged-none h t s; running = run; pages = omega arith }
 
   pub placed-after : (s : Pos) (a b : Laid) → Placed h t r s a → Placed h t r (a .to) b → Placed h t r s (after a b)
   placed-after s a b v w = record {
     sound = sound-append h t r (rankAt r s) (rankAt r (a .to)) (rankAt r (b .to)) (a .dues) (b .dues) (v .sound) (w .sound);
+    paged = paged-after h t s a b (b .to .page) (v .paged) (w .paged);
     running = w .running;
     pages = omega (arith, v .pages, w .pages);
   }

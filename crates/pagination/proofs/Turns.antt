@@ -11,28 +11,16 @@ use Rattle.counts.proofs.Laws.{by-test, by-cond}
 use Rattle.tables.specs.declared.Head.{Head}
 use Rattle.tables.specs.Table.{typeOf}
 use Rattle.fits.specs.Starts.{present, startFrom, aboveHead}
-use Rattle.place.specs.Place.{landing}
-use Rattle.place.proofs.Within.{at-most-two}
-use Rattle.shape.specs.Shape.{bodyOf, frameOf}
-use Rattle.plan.specs.declared.Turn.{Turn}
-use Rattle.plan.specs.declared.Plan.{Plan}
-use Rattle.plan.specs.Plan.{turns, lastPlan}
 use Rattle.layout.specs.declared.Pos.{Pos}
-use Rattle.layout.specs.Layout.{Due, Laid, dueOf, reportHeading, pageHeading, pageFooting, reportFooting, rhAt, phAt, pfAt, rfAt, ownPage, pageChange, pageChanges, placedLines, placed, placeGroup, after, placeAll, nothing, opening, closing, layout}
+use Rattle.layout.specs.Layout.{Due, Laid, dueOf, reportHeading, pageHeading, pageFooting, reportFooting, rhAt, phAt, pfAt, rfAt, ownPage, pageChange, pageChanges, after, nothing, opening}
 use Rattle.pagination.specs.All.{All}
-use Rattle.pagination.specs.Facts.{PageFits}
+use Rattle.pagination.specs.Claims.{lastOf, Walk, Paged}
 use Rattle.pagination.specs.Turns.{Chain, HeadsPage, PageTurn, Behind, isBody, bodies, UpToTwo}
 use Rattle.pagination.proofs.Climbs.{all-map}
 use Rattle.pagination.proofs.Groups.{type-is}
-use Rattle.pagination.proofs.Lands.{TurnOk}
-use Rattle.pagination.proofs.Calls.{DetailOk, turns-ok, no-detail}
 
 -- ---- chains
 module _ {A : Type 0} where
-  unfoldable pub lastOf : A → List A → A
-  lastOf u [] = u
-  lastOf u (v ∷ vs) = lastOf v vs
-
   pub chain-append : (F : A → A → Type 0) (u : A) (xs ys : List A) → Chain F u xs → Chain F (lastOf u xs) ys → Chain F u (xs ++ ys)
   unfolding lastOf
   chain-append F u [] ys a b = b
@@ -61,18 +49,11 @@ module _ (h : Head) (t : List ℕ) where
       let y = pages-in vs v m (c .1) l in
       (omega arith, ((up, y .0), all-map (λ x. (v .page ≤ x .page) × (x .page ≤ m)) (λ x. (u .page ≤ x .page) × (x .page ≤ m)) (λ x z. (omega arith, z .1)) vs (y .1)))
 
-  -- groups due behind u, the last body group before them w: they leave the last one on page p, the last body group on page q
-  pub record Walk (u w : Due) (us : List Due) (p q : ℕ) : Type 0 where
-    pub behind : Chain (Behind h t) u us
-    pub near : Chain UpToTwo w (bodies h t us)
-    pub last : lastOf u us .page ≡ p
-    pub body : lastOf w (bodies h t us) .page ≡ q
-
-  walk-none : (u w : Due) (p q : ℕ) → u .page ≡ p → w .page ≡ q → Walk u w [] p q
+  walk-none : (u w : Due) (p q : ℕ) → u .page ≡ p → w .page ≡ q → Walk h t u w [] p q
   unfolding lastOf bodies
   walk-none u w p q e f = record { behind = tt; near = tt; last = e; body = f }
 
-  walk-append : (u w : Due) (xs ys : List Due) (p q p' q' : ℕ) → Walk u w xs p q → Walk (lastOf u xs) (lastOf w (bodies h t xs)) ys p' q' → Walk u w (xs ++ ys) p' q'
+  walk-append : (u w : Due) (xs ys : List Due) (p q p' q' : ℕ) → Walk h t u w xs p q → Walk h t (lastOf u xs) (lastOf w (bodies h t xs)) ys p' q' → Walk h t u w (xs ++ ys) p' q'
   walk-append u w xs ys p q p' q' a b = record {
     behind = chain-append (Behind h t) u xs ys (a .behind) (b .behind);
     near = rw (bodies-append xs ys) (chain-append UpToTwo w (bodies h t xs) (bodies h t ys) (a .near) (b .near));
@@ -80,17 +61,13 @@ module _ (h : Head) (t : List ℕ) where
     body = rw (bodies-append xs ys) (ap (λ (x : Due). x .page) (last-append w (bodies h t xs) (bodies h t ys)) ∙ b .body);
   }
 
-  -- a layout from a place on, where the last group due and the last body group stand on the place's page, as they do behind it
-  abbrev pub Paged : Pos → Laid → Type 0
-  Paged s a = (u w : Due) → u .page ≡ s .page → w .page ≡ s .page → Walk u w (a .dues) (a .to .page) (a .to .page)
-
-  paged-none : (s : Pos) → Paged s (nothing s)
+  pub paged-none : (s : Pos) → Paged h t s (nothing s) (s .page)
   paged-none s u w e f = walk-none u w (s .page) (s .page) e f
 
-  paged-after : (s : Pos) (a b : Laid) → Paged s a → Paged (a .to) b → Paged s (after a b)
-  paged-after s a b v x u w e f =
+  pub paged-after : (s : Pos) (a b : Laid) (q : ℕ) → Paged h t s a (a .to .page) → Paged h t (a .to) b q → Paged h t s (after a b) q
+  paged-after s a b q v x u w e f =
       let y = v u w e f in
-      walk-append u w (a .dues) (b .dues) (a .to .page) (a .to .page) (b .to .page) (b .to .page) y (x (lastOf u (a .dues)) (lastOf w (bodies h t (a .dues))) (y .last) (y .body))
+      walk-append u w (a .dues) (b .dues) (a .to .page) (a .to .page) (b .to .page) q y (x (lastOf u (a .dues)) (lastOf w (bodies h t (a .dues))) (y .last) (y .body))
 
   -- ---- a heading or footing, which is no body group
   not-body : (g : ℕ) → (typeOf h t g ≤ 1) ⊎ (5 ≤ typeOf h t g) → isBody h t g ≡ false
@@ -108,10 +85,10 @@ module _ (h : Head) (t : List ℕ) where
   ph-body p = not-body (pageHeading h t) (inl (let e = type-is h t 1 0 p in omega arith))
 
   -- one that stands on the page of the group before it
-  same-page : (g : ℕ) (kept : Bool) (page at : ℕ) (u w : Due) (q : ℕ) → (present h t g ≡ true → isBody h t g ≡ false) → u .page ≡ page → w .page ≡ q → Walk u w (dueOf h t g kept page at 0) page q
+  same-page : (g : ℕ) (kept : Bool) (page at : ℕ) (u w : Due) (q : ℕ) → (present h t g ≡ true → isBody h t g ≡ false) → u .page ≡ page → w .page ≡ q → Walk h t u w (dueOf h t g kept page at 0) page q
   unfolding dueOf bodies lastOf
   same-page g kept page at u w q b e f =
-      by-cond (λ us. Walk u w us page q) (present h t g)
+      by-cond (λ us. Walk h t u w us page q) (present h t g)
       (λ p. record { behind = (inl e, tt); near = rw (b p) tt; last = refl; body = rw (b p) f })
       (λ p. walk-none u w page q e f)
 
@@ -196,10 +173,11 @@ module _ (h : Head) (t : List ℕ) where
       ∙ rw (bodies-append a b, no-bodies (pageFooting h t) kept p _ 0 pf-body, no-bodies (pageHeading h t) kept (p + 1) _ 0 ph-body) (no-changes k kept (p + 1))
 
   -- ---- body groups
-  body-walk : (k : ℕ) (kept : Bool) (p g at : ℕ) (u w : Due) → present h t g ≡ true → isBody h t g ≡ true → k ≤ 2 → u .page ≡ p → w .page ≡ p →
-      Walk u w (pageChanges h t kept k p ++ dueOf h t g kept (p + k) at k) (p + k) (p + k)
+  pub body-walk : (k : ℕ) (kept : Bool) (p g at : ℕ) (u w : Due) → present h t g ≡ true → (2 ≤ typeOf h t g) × (typeOf h t g ≤ 4) → k ≤ 2 → u .page ≡ p → w .page ≡ p →
+      Walk h t u w (pageChanges h t kept k p ++ dueOf h t g kept (p + k) at k) (p + k) (p + k)
   unfolding dueOf bodies lastOf
-  body-walk k kept p g at u w q b l e f =
+  body-walk k kept p g at u w q y l e f =
+      let b : isBody h t g ≡ true = rw (le-leb 2 (typeOf h t g) (y .0), le-leb (typeOf h t g) 4 (y .1)) refl in
       let us = pageChanges h t kept k p in
       let v : Due = record { group = g; kept = kept; page = p + k; at = at; turned = k } in
       let c = changes-reach k kept p 0 u (omega arith) (inl e) in
@@ -211,91 +189,50 @@ module _ (h : Head) (t : List ℕ) where
         body = rw (bodies-append us (v ∷ []), no-changes k kept p, b) refl;
       })
 
-  module _ (r : ℕ) (fits : PageFits h t) where
-    made-paged : (d : Turn) (s : Pos) → present h t (d .group) ≡ true → (2 ≤ typeOf h t (d .group)) × (typeOf h t (d .group) ≤ 4) → Paged s (placeGroup h t d s)
-    unfolding placeGroup placed placedLines
-    made-paged d s p b u w e f =
-        let l = landing (frameOf h t) (bodyOf h t (d .group)) (s .spot) in
-        let c : isBody h t (d .group) ≡ true = rw (le-leb 2 (typeOf h t (d .group)) (b .0), le-leb (typeOf h t (d .group)) 4 (b .1)) refl in
-        rw p (body-walk (l .changes) (d .kept) (s .page) (d .group) (l .at) u w p c (at-most-two (frameOf h t) (bodyOf h t (d .group)) (s .spot)) e f)
+  -- ---- RH and PH on page 1, PF and RF at the end
+  pub opening-paged : (s : Pos) → s .page ≡ 1 → Paged h t s (opening h t) 1
+  unfolding opening
+  opening-paged s o u w e f =
+      let a = same-page (reportHeading h t) false 1 (rhAt h t) u w 1 (λ p. not-body (reportHeading h t) (inl (let z = type-is h t 0 0 p in omega arith))) (e ∙ o) (f ∙ o) in
+      walk-append u w (dueOf h t (reportHeading h t) false 1 (rhAt h t) 0) (dueOf h t (pageHeading h t) false 1 (phAt h t) 0) 1 1 1 1 a
+      (same-page (pageHeading h t) false 1 (phAt h t) _ _ 1 ph-body (a .last) (a .body))
 
-    absent-paged : (d : Turn) (s : Pos) → present h t (d .group) ≡ false → Paged s (placeGroup h t d s)
-    unfolding placeGroup placed dueOf pageChanges
-    absent-paged d s p u w e f = rw p (walk-none u w (s .page) (s .page) e f)
+  foot-last : (u : Due) (kept : Bool) (page at : ℕ) → present h t (pageFooting h t) ≡ true → lastOf u (dueOf h t (pageFooting h t) kept page at 0) .group ≡ pageFooting h t
+  unfolding dueOf lastOf
+  foot-last u kept page at p = rw p refl
 
-    group-paged : (d : Turn) (s : Pos) → TurnOk h t r fits d → Paged s (placeGroup h t d s)
-    group-paged d s k = by-test (present h t (d .group)) (λ p. made-paged d s p (k p)) (λ p. absent-paged d s p)
+  own-present : ownPage h t ≡ true → present h t (reportFooting h t) ≡ true
+  own-present e = by-test (present h t (reportFooting h t)) (λ p. p) (λ p. never true refl (sym e ∙ rw p refl))
 
-    all-paged : (ds : List Turn) (s : Pos) → All (TurnOk h t r fits) ds → Paged s (placeAll h t ds s)
-    unfolding placeAll
-    all-paged [] s k = paged-none s
-    all-paged (d ∷ ds) s k = paged-after s (placeGroup h t d s) (placeAll h t ds (placeGroup h t d s .to)) (group-paged d s (k .0)) (all-paged ds (placeGroup h t d s .to) (k .1))
+  rf-body : present h t (reportFooting h t) ≡ true → isBody h t (reportFooting h t) ≡ false
+  rf-body p = not-body (reportFooting h t) (inr (let z = type-is h t 6 0 p in omega arith))
 
-    -- ---- RH and PH on page 1, PF and RF at the end
-    opening-paged : (s : Pos) → s .page ≡ 1 → Paged s (opening h t)
-    unfolding opening
-    opening-paged s o u w e f =
-        let a = same-page (reportHeading h t) false 1 (rhAt h t) u w 1 (λ p. not-body (reportHeading h t) (inl (let z = type-is h t 0 0 p in omega arith))) (e ∙ o) (f ∙ o) in
-        walk-append u w (dueOf h t (reportHeading h t) false 1 (rhAt h t) 0) (dueOf h t (pageHeading h t) false 1 (phAt h t) 0) 1 1 1 1 a
-        (same-page (pageHeading h t) false 1 (phAt h t) _ _ 1 ph-body (a .last) (a .body))
+  -- RF on a page of its own, behind u
+  own-walk : (u w : Due) (p q : ℕ) → ownPage h t ≡ true → u .page ≡ p → (present h t (pageFooting h t) ≡ true → u .group ≡ pageFooting h t) → w .page ≡ q →
+      Walk h t u w (dueOf h t (reportFooting h t) true (p + 1) (rfAt h t) 0) (p + 1) q
+  unfolding dueOf bodies lastOf
+  own-walk u w p q o e k f =
+      rw (own-present o)
+      (record {
+        behind = (inr (record { up = (omega arith, omega arith); footing = λ x. (k x, omega arith); heading = λ x. (inr (o, refl), omega arith) }), tt);
+        near = rw (rf-body (own-present o)) tt;
+        last = refl;
+        body = rw (rf-body (own-present o)) f;
+      })
 
-    foot-last : (u : Due) (kept : Bool) (page at : ℕ) → present h t (pageFooting h t) ≡ true → lastOf u (dueOf h t (pageFooting h t) kept page at 0) .group ≡ pageFooting h t
-    unfolding dueOf lastOf
-    foot-last u kept page at p = rw p refl
+  module _ (s : Pos) (u w : Due) (e : u .page ≡ s .page) (f : w .page ≡ s .page) where
+    abbrev pf : List Due
+    pf = dueOf h t (pageFooting h t) true (s .page) (pfAt h t) 0
 
-    own-present : ownPage h t ≡ true → present h t (reportFooting h t) ≡ true
-    own-present e = by-test (present h t (reportFooting h t)) (λ p. p) (λ p. never true refl (sym e ∙ rw p refl))
+    pf-walk : Walk h t u w pf (s .page) (s .page)
+    pf-walk = same-page (pageFooting h t) true (s .page) (pfAt h t) u w (s .page) pf-body e f
 
-    rf-body : present h t (reportFooting h t) ≡ true → isBody h t (reportFooting h t) ≡ false
-    rf-body p = not-body (reportFooting h t) (inr (let z = type-is h t 6 0 p in omega arith))
+    pub own-closing : ownPage h t ≡ true → Walk h t u w (pf ++ dueOf h t (reportFooting h t) true (s .page + 1) (rfAt h t) 0) (s .page + 1) (s .page)
+    own-closing o =
+        walk-append u w pf (dueOf h t (reportFooting h t) true (s .page + 1) (rfAt h t) 0) (s .page) (s .page) (s .page + 1) (s .page) pf-walk
+        (own-walk (lastOf u pf) (lastOf w (bodies h t pf)) (s .page) (s .page) o (pf-walk .last) (foot-last u true (s .page) (pfAt h t)) (pf-walk .body))
 
-    -- RF on a page of its own, behind u
-    own-walk : (u w : Due) (p q : ℕ) → ownPage h t ≡ true → u .page ≡ p → (present h t (pageFooting h t) ≡ true → u .group ≡ pageFooting h t) → w .page ≡ q →
-        Walk u w (dueOf h t (reportFooting h t) true (p + 1) (rfAt h t) 0) (p + 1) q
-    unfolding dueOf bodies lastOf
-    own-walk u w p q o e k f =
-        rw (own-present o)
-        (record {
-          behind = (inr (record { up = (omega arith, omega arith); footing = λ x. (k x, omega arith); heading = λ x. (inr (o, refl), omega arith) }), tt);
-          near = rw (rf-body (own-present o)) tt;
-          last = refl;
-          body = rw (rf-body (own-present o)) f;
-        })
-
-    closing-walk : (s : Pos) (u w : Due) → u .page ≡ s .page → w .page ≡ s .page → Walk u w (closing h t s .dues) (closing h t s .to .page) (s .page)
-    unfolding closing
-    closing-walk s u w e f =
-        let pf = dueOf h t (pageFooting h t) true (s .page) (pfAt h t) 0 in
-        let a = same-page (pageFooting h t) true (s .page) (pfAt h t) u w (s .page) pf-body e f in
-        by-test (ownPage h t)
-        (λ o. rw o (walk-append u w pf (dueOf h t (reportFooting h t) true (s .page + 1) (rfAt h t) 0) (s .page) (s .page) (s .page + 1) (s .page) a
-        (own-walk (lastOf u pf) (lastOf w (bodies h t pf)) (s .page) (s .page) o (a .last) (foot-last u true (s .page) (pfAt h t)) (a .body))))
-        (λ o. rw o (walk-append u w pf (dueOf h t (reportFooting h t) true (s .page) (rfAt h t) 0) (s .page) (s .page) (s .page) (s .page) a
-        (same-page (reportFooting h t) true (s .page) (rfAt h t) (lastOf u pf) (lastOf w (bodies h t pf)) (s .page) rf-body (a .last) (a .body))))
-
-    -- ---- the calls
-    abbrev bodyLaid : Plan → Pos → Laid
-    bodyLaid p s = after (placeAll h t (turns h t p) s) (nothing (placeAll h t (turns h t p) s .to))
-
-    body-paged : (p : Plan) (s : Pos) → DetailOk h t r fits (p .detail) → Paged s (bodyLaid p s)
-    body-paged p s k =
-        let a = placeAll h t (turns h t p) s in
-        paged-after s a (nothing (a .to)) (all-paged (turns h t p) s (turns-ok h t r fits p k)) (paged-none (a .to))
-
-    pub first-paged : (p : Plan) (s : Pos) → DetailOk h t r fits (p .detail) → s .page ≡ 1 → Paged s (layout h t true p false s)
-    unfolding layout
-    first-paged p s k e = paged-after s (opening h t) (bodyLaid p (opening h t .to)) (opening-paged s e) (body-paged p (opening h t .to) k)
-
-    pub later-paged : (p : Plan) (s : Pos) → DetailOk h t r fits (p .detail) → Paged s (layout h t false p false s)
-    unfolding layout
-    later-paged p s k = paged-after s (nothing s) (bodyLaid p s) (paged-none s) (body-paged p s k)
-
-    -- TERMINATE may leave RF on a page behind the last body group's
-    pub last-paged : (s : Pos) (u w : Due) → u .page ≡ s .page → w .page ≡ s .page →
-        Walk u w (layout h t false (lastPlan h) true s .dues) (layout h t false (lastPlan h) true s .to .page) (placeAll h t (turns h t (lastPlan h)) s .to .page)
-    unfolding layout
-    last-paged s u w e f =
-        let a = placeAll h t (turns h t (lastPlan h)) s in
-        let b = all-paged (turns h t (lastPlan h)) s (turns-ok h t r fits (lastPlan h) (no-detail h t r fits)) u w e f in
-        walk-append u w (a .dues) (closing h t (a .to) .dues) (a .to .page) (a .to .page) (closing h t (a .to) .to .page) (a .to .page) b
-        (closing-walk (a .to) (lastOf u (a .dues)) (lastOf w (bodies h t (a .dues))) (b .last) (b .body))
+    pub below-closing : Walk h t u w (pf ++ dueOf h t (reportFooting h t) true (s .page) (rfAt h t) 0) (s .page) (s .page)
+    below-closing =
+        walk-append u w pf (dueOf h t (reportFooting h t) true (s .page) (rfAt h t) 0) (s .page) (s .page) (s .page) (s .page) pf-walk
+        (same-page (reportFooting h t) true (s .page) (rfAt h t) (lastOf u pf) (lastOf w (bodies h t pf)) (s .page) rf-body (pf-walk .last) (pf-walk .body))
