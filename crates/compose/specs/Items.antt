@@ -26,9 +26,12 @@ inputs lits kept row sums = record { lits = lits; kept = kept; row = row; sums =
 abbrev pub applied : Inputs → View → List ℕ
 applied inp v = cond (v .«from_kept») (inp .kept) (inp .row)
 
--- the view of another line of the same group
+-- the view of another line: on another page, or of the same group
+abbrev pub onPage : View → ℕ → ℕ → View
+onPage v page line = record { page = page; line = line; «from_kept» = v .«from_kept»; flag = v .flag; prefix = v .prefix }
+
 abbrev pub onLine : View → ℕ → View
-onLine v line = record { page = v .page; line = line; «from_kept» = v .«from_kept»; flag = v .flag; prefix = v .prefix }
+onLine v line = onPage v (v .page) line
 
 -- a literal: as many bytes as the item is wide, from an offset on
 abbrev pub literalText : List ℕ → Item → List ℕ

@@ -4,7 +4,7 @@ ghost use mathlib.Core.Bool.{cond};
 ghost use Prim.Native.Nat.{_+_, _≤_, _<_};
 ghost use lib.ListN.{length};
 ghost use Rattle.rows.specs.Facts.{FieldFormed};
-ghost use Rattle.compose.specs.Items.{inputs, onLine, literalText, fieldText, counterText, sumText, sourceText};
+ghost use Rattle.compose.specs.Items.{inputs, onPage, onLine, literalText, fieldText, counterText, sumText, sourceText};
 ghost use Rattle.compose.specs.Lines.{atColumn, withItem, lineText};
 ghost use Rattle.compose.specs.Facts.{Fits, ItemReady, LineReady};
 use number::parse;
@@ -22,18 +22,24 @@ pub struct View {
     pub prefix: Prefix,
 }
 
-// The view of another line of the same group.
-pub fn on_line(v: View, line: u64) -> View
-    ensures { λ r. ⌜ r ≡ onLine v line ⌝ }
+// The view of another line: on another page, or of the same group.
+pub fn on_page(v: View, page: u32, line: u64) -> View
+    ensures { λ r. ⌜ r ≡ onPage v page line ⌝ }
 {
     let prefix = v.prefix;
     View {
-        page: v.page,
+        page,
         line,
         from_kept: v.from_kept,
         flag: v.flag,
         prefix,
     }
+}
+
+pub fn on_line(v: View, line: u64) -> View
+    ensures { λ r. ⌜ r ≡ onLine v line ⌝ }
+{
+    on_page(v, v.page, line)
 }
 
 // Puts literal bytes into a line buffer.
