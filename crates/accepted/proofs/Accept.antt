@@ -5,6 +5,7 @@ use mathlib.Core.Path.{_≡_, refl, sym, _∙_}
 use mathlib.Core.Bool.{Bool, true, false, _&&_}
 use mathlib.Core.List.{List}
 use native.Mathlib.Omega.{arith}
+use lib.ListN.{length, length-take, length-drop}
 use borrow.Author.Tests.{leb-true}
 use Rattle.counts.proofs.Laws.{and-l, and-r}
 use Rattle.file.specs.Sections.{ruleD1}
@@ -22,6 +23,7 @@ use Rattle.counters.specs.Counters.{ruleD8}
 use Rattle.description.specs.declared.Checked.{Checked}
 use Rattle.description.specs.declared.Checked.the-variants.{Accepted, Broken}
 use Rattle.description.specs.Check.{after, from3, from4, from5, from6, from7, from8, judged, checked}
+use Rattle.description.proofs.Answer.{literals-in}
 use Rattle.accepted.specs.Accepted as facts
 use Rattle.accepted.proofs.Index.{details-few}
 use Rattle.accepted.proofs.Page.{small, page-fits}
@@ -73,9 +75,9 @@ unfolding checked
 checked-judged d e = kept-rest 1 (ruleD1 d) (judged (headOf d) (table d) (literals d)) e
 
 -- from the rules of the tables, with D1's limits
-pub rules-give : (h : Head) (t lits : List ℕ) → h .controls ≤ 8 → h .groups ≤ 32 → h .counters ≤ 32 → Kept h t lits → facts.Accepted h t lits
+pub rules-give : (h : Head) (t lits : List ℕ) → h .controls ≤ 8 → h .groups ≤ 32 → h .counters ≤ 32 → length lits ≡ h .literals → Kept h t lits → facts.Accepted h t lits
 unfolding ruleD2
-rules-give h t lits c g k r =
+rules-give h t lits c g k l r =
     let e2 = r .d2 in
     let w : h .width ≤ 132 = leb-true _ _ (search (and-l, and-r) depth 14) in
     let n = details-few h t (r .d5) in
@@ -91,14 +93,19 @@ rules-give h t lits c g k r =
       fieldsIn = fields-in h t (r .d3);
       controlsIn = controls-in h t (r .d4);
       countersIn = counters-in h t k (r .d8);
-      itemsIn = items-in h t lits (r .d7) (record { width = w; counters = k });
+      itemsIn = items-in h t lits (r .d7) l w;
       small = small h t (r .d2) (r .d5) (r .d6);
       pageFits = page-fits h t (r .d2) (r .d5) (r .d6);
     }
+
+-- the literals are as many as the head says
+length-literals : (d : List ℕ) → ruleD1 d ≡ true → length (literals d) ≡ headOf d .literals
+unfolding literals
+length-literals d o = simp (length-take, length-drop) (omega (arith, literals-in d o))
 
 -- what CHECK's acceptance gives
 pub accepted : (d : List ℕ) → checked d ≡ Accepted → facts.Accepted (headOf d) (table d) (literals d)
 accepted d e =
     let o = checked-d1 d e in
-    rules-give (headOf d) (table d) (literals d) (counted d o 1 (omega arith)) (counted d o 2 (omega arith)) (counted d o 5 (omega arith))
+    rules-give (headOf d) (table d) (literals d) (counted d o 1 (omega arith)) (counted d o 2 (omega arith)) (counted d o 5 (omega arith)) (length-literals d o)
     (judged-kept (headOf d) (table d) (literals d) (checked-judged d e))
