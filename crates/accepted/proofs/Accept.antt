@@ -94,7 +94,7 @@ rules-give h t lits c g k r =
       fieldsIn = fields-in h t (r .d3);
       controlsIn = controls-in h t (r .d4);
       countersIn = counters-in h t k (r .d8);
-      itemsIn = items-in h t lits (r .d7) (record { width = w; counters = k });
+      itemsIn = items-in h t lits (r .d7) w;
       small = small h t (r .d2) (r .d5) (r .d6);
       pageFits = page-fits h t (r .d2) (r .d5) (r .d6);
     }

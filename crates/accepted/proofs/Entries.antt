@@ -1,17 +1,18 @@
 -- D3, D4, D7 and D8 give the facts of fields, controls, items and counters.
 -- Assumes nothing.
-use Prim.Native.Nat.{ℕ, zero, suc, _+_, _≤_, _<_}
-use mathlib.Core.Path.{_≡_, sym}
-use mathlib.Core.Bool.{Bool, true, false, cond, _&&_, _||_, false≢true}
+use Prim.Native.Nat.{ℕ, zero, suc, _+_, _*_, _≤_, _<_}
+use mathlib.Core.Path.{_≡_, refl, sym, ap, _∙_}
+use mathlib.Core.Bool.{Bool, true, false, cond, _&&_, _||_, not, false≢true}
 use mathlib.Core.List.{List}
 use native.Mathlib.Omega.{arith}
 use lib.Dec.{leb, ltb, eqb}
-use lib.ListN.{length}
-use borrow.Author.Tests.{leb-true, ltb-true, eqb-true}
-use Rattle.counts.proofs.Laws.{by-test, and-l, and-r, all-at}
+use lib.ListN.{length, getD}
+use borrow.Author.Tests.{leb-true, ltb-true, eqb-true, eqb-false, eq-eqb, ne-eqb}
+use Rattle.counts.specs.Below.{allBelow}
 use Rattle.ascii.proofs.Laws.{printable-there}
+use Rattle.counts.proofs.Laws.{by-test, and-l, and-r, or-r, all-at}
 use Rattle.tables.specs.declared.Head.{Head}
-use Rattle.tables.specs.Table.{fieldKind, fieldWidth, control, final, firstLine, lineCount, firstItem, itemCount, itemColumn, itemWidth, itemKind, itemIndex, firstAddend, addendCount, addendKind}
+use Rattle.tables.specs.Table.{fieldKind, fieldOffset, fieldWidth, control, final, typeOf, firstLine, lineCount, firstItem, itemCount, itemColumn, itemWidth, itemKind, itemIndex, itemDecimals, itemOf, counterGroup, firstAddend, addendCount, addendKind, addendIndex, addendMask}
 use Rattle.lookup.specs.Find.{details}
 use Rattle.fields.specs.Fields.{insideRecord, widthOk, fieldOk, ruleD3}
 use Rattle.fields.specs.Controls.{controlOk, ruleD4}
@@ -21,7 +22,7 @@ use Rattle.counters.specs.Addends.{fieldAddendOk, counterAddendOk, addendOk}
 use Rattle.counters.specs.Counters.{ownAddendOk, addendsOk, counterOk, ruleD8}
 use Rattle.rows.specs.Facts.{FieldsIn, ControlsIn}
 use Rattle.sums.specs.Facts.{AddendIn, CountersIn}
-use Rattle.compose.specs.Facts.{ItemIn, Sized, ItemsIn}
+use Rattle.compose.specs.Facts.{ItemIn, ItemsIn}
 
 -- a width of its kind: a number's is at most 18
 number-width : (k w : ℕ) → (eqb k 0 && leb 1 w && leb w 64 || eqb k 1 && leb 2 w && leb w 18) ≡ true → k ≡ 1 → w ≤ 18
@@ -112,6 +113,10 @@ module _ (h : Head) (t : List ℕ) where
     free-one l zero n a w = omega arith
     free-one l (suc m) n a w = let z = w m (omega arith) in omega arith
 
+    -- item i read whole has the column of item i
+    column-whole : (i : ℕ) → itemOf h t i .column ≡ itemColumn h t i
+    column-whole i = let z : h .istart + 6 * i ≡ h .istart + 6 * i + 0 = omega arith in ap (λ (k : ℕ). getD t k 0) z
+
     module _ (e : ruleD7 h t lits ≡ true) where
       item-ok : (g k m : ℕ) → g < h .groups → k < lineCount h t g → m < itemCount h t (firstLine h t g + k) → itemOk h t g (firstLine h t g + k) m ≡ true
       unfolding ruleD7 groupItemsOk lineItemsOk
@@ -128,7 +133,7 @@ module _ (h : Head) (t : List ℕ) where
       unfolding itemOk
       item-wide g k m a b c = let o = item-ok g k m a b c in leb-true _ _ (search (and-l, and-r) depth 8)
 
-      item-in : (g k m : ℕ) → g < h .groups → k < lineCount h t g → m < itemCount h t (firstLine h t g + k) → ItemIn h t lits (firstItem h t (firstLine h t g + k) + m)
+      item-in : (g k m : ℕ) → g < h .groups → k < lineCount h t g → m < itemCount h t (firstLine h t g + k) → ItemIn h (itemOf h t (firstItem h t (firstLine h t g + k) + m))
       unfolding itemOk shownOk decimalsOk
       item-in g k m a b c =
           let o = item-ok g k m a b c in
@@ -136,15 +141,16 @@ module _ (h : Head) (t : List ℕ) where
           let i = firstItem h t l + m in
           let f : freeColumn h t l m ≤ itemColumn h t i = leb-true _ _ (search (and-l, and-r) depth 8) in
           let s : sourceOk h t g i ≡ true = search (and-l, and-r) depth 8 in
+          let w : itemColumn h t i + itemWidth h t i ≤ h .width + 1 = leb-true _ _ (search (and-l, and-r) depth 8) in
           record {
-            column = let z = free-one l m (itemCount h t l) c (λ j q. item-wide g k j a b q) in omega arith;
-            inside = leb-true _ _ (search (and-l, and-r) depth 8);
+            column = let z = free-one l m (itemCount h t l) c (λ j q. item-wide g k j a b q) in omega (arith, column-whole i);
+            inside = omega (arith, w, column-whole i);
             kind = source-kind g i s;
-            literal = λ q. let z = literal-in g i s q in let n = literals-there in omega arith;
+            literal = literal-in g i s;
             field = field-in g i s;
             sum = sum-in g i s;
             decimals = leb-true _ _ (search (and-l, and-r) depth 8);
           }
 
-      pub items-in : Sized h → ItemsIn h t lits
-      items-in z = record { sized = z; each = item-in }
+      pub items-in : h .width ≤ 132 → ItemsIn h t lits
+      items-in w = record { sized = record { width = w; literals = omega arith }; each = item-in }

@@ -1,7 +1,7 @@
--- Laws of the text of an item: it is as long as the item is wide. Assumes nothing.
+-- Laws of the text of an item: it is as long as the item is wide, and what it is by kind and flag. Assumes nothing.
 use mathlib.Core.Path.{_≡_, refl}
-use Prim.Native.Nat.{ℕ, _+_, _≤_}
-use mathlib.Core.Bool.{Bool, true, false}
+use Prim.Native.Nat.{ℕ, _+_, _≤_, _<_}
+use mathlib.Core.Bool.{Bool, true, false, cond}
 use mathlib.Core.List.{List}
 use native.Mathlib.Omega.{arith}
 use borrow.Author.Tests.{eqb-true}
@@ -10,84 +10,87 @@ use lib.IntN.{ℤ, pos}
 use lib.ListN.{length, getD, replicate, length-take, length-drop, length-replicate}
 use Rattle.counts.proofs.Laws.{by-cond}
 use Rattle.number.specs.Value.{numberOf}
-use Rattle.figures.specs.Number.{numberField}
 use Rattle.figures.proofs.Laws.{length-numberField, length-alignLeft}
 use Rattle.tables.specs.declared.Head.{Head}
-use Rattle.tables.specs.Table.{fieldKind, itemWidth, itemKind, itemIndex, itemDecimals}
+use Rattle.tables.specs.declared.Item.{Item}
+use Rattle.tables.specs.Table.{fieldKind}
 use Rattle.rows.specs.Fields.{fieldPart}
 use Rattle.rows.specs.Facts.{Formed}
-use Rattle.compose.specs.Items.{Inputs, applied, literalText, fieldText, sourceText, hidden, itemText}
-use Rattle.compose.specs.Facts.{ItemIn, Readable}
+use Rattle.rows.proofs.Fields.{field-formed}
+use Rattle.compose.specs.declared.View.{View}
+use Rattle.compose.specs.Items.{Inputs, applied, literalText, fieldText, counterText, sumText, sourceText, hidden, itemText}
+use Rattle.compose.specs.Facts.{ItemIn, Sized, Readable, Fits, ItemReady}
 
 -- the record that applies is well formed
-pub applied-formed : {h : Head} {t : List ℕ} {inp : Inputs} → Readable h t inp → (fromKept : Bool) → Formed h t (applied inp fromKept)
+applied-formed : {h : Head} {t : List ℕ} {inp : Inputs} → Readable h t inp → (fromKept : Bool) → Formed h t (cond fromKept (inp .kept) (inp .row))
 applied-formed r true = r .kept
 applied-formed r false = r .row
 
-length-literalText : (lits : List ℕ) (offset w : ℕ) → offset + w ≤ length lits → length (literalText lits offset w) ≡ w
-length-literalText lits offset w h = simp (length-take, length-drop) (omega arith)
+-- an item of an accepted description is ready
+pub item-ready : (h : Head) (t : List ℕ) (inp : Inputs) (v : View) (x : Item) (text : List ℕ) → Sized h (inp .lits) → ItemIn h x → Readable h t inp
+    → v .line < 68719476736 → h .width ≤ length text → ItemReady t inp v x text
+item-ready h t inp v x text s i r n w = record {
+  fits = record { column = i .column; inside = omega (arith, i .inside); decimals = i .decimals };
+  kind = i .kind;
+  literal = λ k. omega (arith, i .literal k, s .literals);
+  field = λ k l. field-formed (x .index) (i .field k) l (applied-formed r (v .«from_kept»));
+  sum = λ k. omega (arith, i .sum k, r .sums);
+  number = n;
+}
 
-length-fieldText : (t rec : List ℕ) (i d w : ℕ) → length (fieldText t rec i d w) ≡ w
-unfolding fieldText
-length-fieldText t rec i d w =
-    by-cond (λ (l : List ℕ). length l ≡ w) (eqb (fieldKind t i) 1)
-    (λ e. length-numberField (numberOf (fieldPart t rec i)) d w)
-    (λ e. length-alignLeft w (fieldPart t rec i))
+module _ (t : List ℕ) (inp : Inputs) (v : View) (x : Item) where
+  length-fieldText : (rec : List ℕ) → length (fieldText t rec x) ≡ x .width
+  unfolding fieldText
+  length-fieldText rec =
+      by-cond (λ (l : List ℕ). length l ≡ x .width) (eqb (fieldKind t (x .index)) 1)
+      (λ e. length-numberField (numberOf (fieldPart t rec (x .index))) (x .decimals) (x .width))
+      (λ e. length-alignLeft (x .width) (fieldPart t rec (x .index)))
 
-module _ (h : Head) (t : List ℕ) (page line i : ℕ) where
-  length-sourceText : (lits rec : List ℕ) (sums : List ℤ) → ItemIn h t lits i → length (sourceText h t lits rec sums page line i) ≡ itemWidth h t i
+  length-sourceText : (x .kind ≡ 0 → x .index + x .width ≤ length (inp .lits)) → length (sourceText t inp v x) ≡ x .width
   unfolding sourceText
-  length-sourceText lits rec sums s =
-      let w = itemWidth h t i in
-      let kind = itemKind h t i in
-      let long : List ℕ → Type 0 = λ (l : List ℕ). length l ≡ w in
-      by-cond long (eqb kind 0) (λ e. length-literalText lits (itemIndex h t i) w (s .literal (eqb-true kind 0 e)))
-      (λ _. by-cond long (eqb kind 1) (λ _. length-fieldText t rec (itemIndex h t i) (itemDecimals h t i) w)
-      (λ _. by-cond long (eqb kind 2) (λ _. length-numberField (pos page) 0 w)
-      (λ _. by-cond long (eqb kind 3) (λ _. length-numberField (pos line) 0 w)
-      (λ _. length-numberField (getD sums (itemIndex h t i) (pos 0)) (itemDecimals h t i) w))))
+  length-sourceText s =
+      let long : List ℕ → Type 0 = λ (l : List ℕ). length l ≡ x .width in
+      by-cond long (eqb (x .kind) 0) (λ e. let i = s (eqb-true (x .kind) 0 e) in simp (length-take, length-drop) (omega arith))
+      (λ _. by-cond long (eqb (x .kind) 1) (λ _. length-fieldText (applied inp v))
+      (λ _. by-cond long (eqb (x .kind) 2) (λ _. length-numberField (pos (v .page)) 0 (x .width))
+      (λ _. by-cond long (eqb (x .kind) 3) (λ _. length-numberField (pos (v .line)) 0 (x .width))
+      (λ _. length-numberField (getD (inp .sums) (x .index) (pos 0)) (x .decimals) (x .width)))))
 
-  pub length-itemText : (inp : Inputs) (fromKept : Bool) → ItemIn h t (inp .lits) i → length (itemText h t inp fromKept page line i) ≡ itemWidth h t i
+  pub length-itemText : (x .kind ≡ 0 → x .index + x .width ≤ length (inp .lits)) → length (itemText t inp v x) ≡ x .width
   unfolding itemText
-  length-itemText inp fromKept s =
-      by-cond (λ (l : List ℕ). length l ≡ itemWidth h t i) (hidden h t (inp .flag) i)
-      (λ e. length-replicate (itemWidth h t i) 32)
-      (λ e. length-sourceText (inp .lits) (applied inp fromKept) (inp .sums) s)
+  length-itemText s =
+      by-cond (λ (l : List ℕ). length l ≡ x .width) (hidden v x) (λ e. length-replicate (x .width) 32) (λ e. length-sourceText s)
 
--- what an item shows, by its kind
-module _ (h : Head) (t lits rec : List ℕ) (sums : List ℤ) (page line i : ℕ) where
-  pub source-literal : itemKind h t i ≡ 0 → sourceText h t lits rec sums page line i ≡ literalText lits (itemIndex h t i) (itemWidth h t i)
+  -- what an item shows, by its kind
+  pub source-literal : x .kind ≡ 0 → sourceText t inp v x ≡ literalText (inp .lits) x
   unfolding sourceText
   source-literal k = rw k refl
 
-  pub source-field : itemKind h t i ≡ 1 → sourceText h t lits rec sums page line i ≡ fieldText t rec (itemIndex h t i) (itemDecimals h t i) (itemWidth h t i)
+  pub source-field : x .kind ≡ 1 → sourceText t inp v x ≡ fieldText t (applied inp v) x
   unfolding sourceText
   source-field k = rw k refl
 
-  pub source-page : itemKind h t i ≡ 2 → sourceText h t lits rec sums page line i ≡ numberField (pos page) 0 (itemWidth h t i)
+  pub source-page : x .kind ≡ 2 → sourceText t inp v x ≡ counterText (v .page) x
   unfolding sourceText
   source-page k = rw k refl
 
-  pub source-line : itemKind h t i ≡ 3 → sourceText h t lits rec sums page line i ≡ numberField (pos line) 0 (itemWidth h t i)
+  pub source-line : x .kind ≡ 3 → sourceText t inp v x ≡ counterText (v .line) x
   unfolding sourceText
   source-line k = rw k refl
 
-  pub source-sum : itemKind h t i ≡ 4
-      → sourceText h t lits rec sums page line i ≡ numberField (getD sums (itemIndex h t i) (pos 0)) (itemDecimals h t i) (itemWidth h t i)
+  pub source-sum : x .kind ≡ 4 → sourceText t inp v x ≡ sumText (inp .sums) x
   unfolding sourceText
   source-sum k = rw k refl
+
+  -- an item flagged indicate, and any other
+  pub item-hidden : hidden v x ≡ true → itemText t inp v x ≡ replicate (x .width) 32
+  unfolding itemText
+  item-hidden k = rw k refl
+
+  pub item-shown : hidden v x ≡ false → itemText t inp v x ≡ sourceText t inp v x
+  unfolding itemText
+  item-shown k = rw k refl
 
 -- a sum is the kind that is none of the others
 pub last-kind : {k : ℕ} → k ≤ 4 → (k ≡ 0 → ⊥) → (k ≡ 1 → ⊥) → (k ≡ 2 → ⊥) → (k ≡ 3 → ⊥) → k ≡ 4
 last-kind l n0 n1 n2 n3 = omega arith
-
--- an item flagged indicate, and any other
-module _ (h : Head) (t : List ℕ) (inp : Inputs) (fromKept : Bool) (page line i : ℕ) where
-  pub item-hidden : hidden h t (inp .flag) i ≡ true → itemText h t inp fromKept page line i ≡ replicate (itemWidth h t i) 32
-  unfolding itemText
-  item-hidden k = rw k refl
-
-  pub item-shown : hidden h t (inp .flag) i ≡ false
-      → itemText h t inp fromKept page line i ≡ sourceText h t (inp .lits) (applied inp fromKept) (inp .sums) page line i
-  unfolding itemText
-  item-shown k = rw k refl

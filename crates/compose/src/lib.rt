@@ -1,202 +1,176 @@
-// The text of items and lines, and the printed record of a line.
+// The text of items and lines.
 ghost use mathlib.Core.Path.{_≡_};
 ghost use mathlib.Core.Bool.{cond};
 ghost use Prim.Native.Nat.{_+_, _≤_, _<_};
-ghost use lib.IntN.{pos};
-ghost use lib.ListN.{length, getD};
-ghost use Rattle.splice.specs.Splice.{splice, Wrote};
-ghost use Rattle.figures.specs.Number.{numberField};
-ghost use Rattle.tables.specs.Table.{itemWidth};
+ghost use lib.ListN.{length};
 ghost use Rattle.rows.specs.Facts.{FieldFormed};
-ghost use Rattle.compose.specs.Items.{inputs, literalText, fieldText, sourceText};
-ghost use Rattle.compose.specs.Lines.{withItem, lineText, lineBytes};
-ghost use Rattle.compose.specs.Facts.{SourceReady, ItemReady, LineReady};
+ghost use Rattle.compose.specs.Items.{inputs, onPage, onLine, literalText, fieldText, counterText, sumText, sourceText};
+ghost use Rattle.compose.specs.Lines.{atColumn, withItem, lineText};
+ghost use Rattle.compose.specs.Facts.{Fits, ItemReady, LineReady};
 use number::parse;
+use printed::Prefix;
 use tables::Head;
+use tables::Item;
 
-// Puts w literal bytes, from an offset on, into a line buffer.
-fn put_literal(lits: &[u8], offset: usize, w: usize, at: usize, text: &mut [u8])
-    requires { ⌜ (offset + w ≤ length (now lits)) × (at + w ≤ length (now text)) ⌝ }
-    ensures { λ _. ⌜ now (text .exit) ≡ splice (now (text .entry)) at (literalText (now (lits .entry)) offset w) ⌝ }
-{
-    splice::copy(&lits[offset..], w, at, text);
+// By what a line is read and printed: its page and line, whether it reads the kept record, the indicate flag of the
+// detail, and what stands in front of the record.
+pub struct View {
+    pub page: u32,
+    pub line: u64,
+    pub from_kept: bool,
+    pub flag: bool,
+    pub prefix: Prefix,
 }
 
-// Puts field i of the record that applies.
+// The view of another line: on another page, or of the same group.
+pub fn on_page(v: View, page: u32, line: u64) -> View
+    ensures { λ r. ⌜ r ≡ onPage v page line ⌝ }
+{
+    let prefix = v.prefix;
+    View {
+        page,
+        line,
+        from_kept: v.from_kept,
+        flag: v.flag,
+        prefix,
+    }
+}
+
+pub fn on_line(v: View, line: u64) -> View
+    ensures { λ r. ⌜ r ≡ onLine v line ⌝ }
+{
+    on_page(v, v.page, line)
+}
+
+// Puts literal bytes into a line buffer.
+fn put_literal(lits: &[u8], x: Item, text: &mut [u8])
+    requires { ⌜ Fits x (now text) × (x .index + x .width ≤ length (now lits)) ⌝ }
+    ensures { λ _. ⌜ now (text .exit) ≡ atColumn x (literalText (now (lits .entry)) x) (now (text .entry)) ⌝ }
+{
+    let offset = x.index as usize;
+    splice::copy(
+        &lits[offset..],
+        x.width as usize,
+        x.column as usize - 1,
+        text,
+    );
+}
+
+// Puts a field of the record that applies.
 fn put_field<'a>(
     t: &[u16],
     kept: &'a [u8],
     row: &'a [u8],
     from_kept: bool,
-    i: usize,
-    d: usize,
-    w: usize,
-    at: usize,
+    x: Item,
     text: &mut [u8],
 )
-    requires { ⌜ FieldFormed (now t) (cond «from_kept» (now kept) (now row)) i × ((d ≤ 4) × (at + w ≤ length (now text))) ⌝ }
-    ensures { λ _. ⌜ now (text .exit) ≡ splice (now (text .entry)) at (fieldText (now (t .entry)) (cond «from_kept» (now (kept .entry)) (now (row .entry))) i d w) ⌝ }
+    requires { ⌜ Fits x (now text) × (x .index < 65536 → FieldFormed (now t) (cond «from_kept» (now kept) (now row)) (x .index)) ⌝ }
+    ensures { λ _. ⌜ now (text .exit) ≡ atColumn x (fieldText (now (t .entry)) (cond «from_kept» (now (kept .entry)) (now (row .entry))) x) (now (text .entry)) ⌝ }
 {
+    let i = x.index as usize;
+    let w = x.width as usize;
+    let at = x.column as usize - 1;
     let part = rows::applies(t, kept, row, from_kept, i);
     let kind = tables::field_num(t, i, 0);
     if kind == 1 {
-        figures::put_number(parse::number(part), d, w, at, text);
+        figures::put_number(parse::number(part), x.decimals as usize, w, at, text);
     } else {
         figures::put_text(part, w, at, text);
     }
 }
 
 // Puts a page or line number.
-fn put_counter(n: u64, w: usize, at: usize, text: &mut [u8])
-    requires { ⌜ (n < 68719476736) × (at + w ≤ length (now text)) ⌝ }
-    ensures { λ _. ⌜ now (text .exit) ≡ splice (now (text .entry)) at (numberField (pos n) 0 w) ⌝ }
+fn put_counter(n: u64, x: Item, text: &mut [u8])
+    requires { ⌜ Fits x (now text) × (n < 68719476736) ⌝ }
+    ensures { λ _. ⌜ now (text .exit) ≡ atColumn x (counterText n x) (now (text .entry)) ⌝ }
 {
-    figures::put_number(n as i64, 0, w, at, text);
+    figures::put_number(n as i64, 0, x.width as usize, x.column as usize - 1, text);
 }
 
-// Puts sum k.
-fn put_sum(sums: &[i64], k: usize, d: usize, w: usize, at: usize, text: &mut [u8])
-    requires { ⌜ (k < length (now sums)) × ((d ≤ 4) × (at + w ≤ length (now text))) ⌝ }
-    ensures { λ _. ⌜ now (text .exit) ≡ splice (now (text .entry)) at (numberField (getD (now (sums .entry)) k (pos 0)) d w) ⌝ }
+// Puts a sum.
+fn put_sum(sums: &[i64], x: Item, text: &mut [u8])
+    requires { ⌜ Fits x (now text) × (x .index < length (now sums)) ⌝ }
+    ensures { λ _. ⌜ now (text .exit) ≡ atColumn x (sumText (now (sums .entry)) x) (now (text .entry)) ⌝ }
 {
+    let k = x.index as usize;
     let sum = sums[k];
-    figures::put_number(sum, d, w, at, text);
+    figures::put_number(
+        sum,
+        x.decimals as usize,
+        x.width as usize,
+        x.column as usize - 1,
+        text,
+    );
 }
 
-// Puts what item i shows, by its source kind, w bytes wide.
+// Puts what an item shows, by its source kind.
 fn put_source<'a>(
     t: &[u16],
-    h: Head,
     lits: &[u8],
     kept: &'a [u8],
     row: &'a [u8],
     sums: &[i64],
-    from_kept: bool,
-    page: u32,
-    line: u64,
-    i: usize,
-    w: usize,
-    at: usize,
+    v: View,
+    x: Item,
     text: &mut [u8],
 )
-    requires { ⌜ SourceReady h (now t) (now lits) (cond «from_kept» (now kept) (now row)) (now sums) line i × ((w ≡ itemWidth h (now t) i) × (at + w ≤ length (now text))) ⌝ }
-    ensures { λ _. ⌜ now (text .exit) ≡ splice (now (text .entry)) at (sourceText h (now (t .entry)) (now (lits .entry)) (cond «from_kept» (now (kept .entry)) (now (row .entry))) (now (sums .entry)) page line i) ⌝ }
+    requires { ⌜ ItemReady (now t) (inputs (now lits) (now kept) (now row) (now sums)) v x (now text) ⌝ }
+    ensures { λ _. ⌜ now (text .exit) ≡ atColumn x (sourceText (now (t .entry)) (inputs (now (lits .entry)) (now (kept .entry)) (now (row .entry)) (now (sums .entry))) v x) (now (text .entry)) ⌝ }
 {
-    let kind = tables::item_num(t, h, i, 2);
-    let index = tables::item_num(t, h, i, 3);
-    let d = tables::item_num(t, h, i, 4);
+    let kind = x.kind;
     match kind {
-        0 => put_literal(lits, index, w, at, text),
-        1 => put_field(t, kept, row, from_kept, index, d, w, at, text),
-        2 => put_counter(page as u64, w, at, text),
-        3 => put_counter(line, w, at, text),
-        _ => put_sum(sums, index, d, w, at, text),
+        0 => put_literal(lits, x, text),
+        1 => put_field(t, kept, row, v.from_kept, x, text),
+        2 => put_counter(v.page as u64, x, text),
+        3 => put_counter(v.line, x, text),
+        _ => put_sum(sums, x, text),
     }
 }
 
-// Puts item i into a line buffer, at its column: what it shows, or blanks.
+// Puts an item into a line buffer, at its column: what it shows, or blanks.
 fn put_item<'a>(
     t: &[u16],
-    h: Head,
     lits: &[u8],
     kept: &'a [u8],
     row: &'a [u8],
     sums: &[i64],
-    from_kept: bool,
-    flag: bool,
-    page: u32,
-    line: u64,
-    i: usize,
+    v: View,
+    x: Item,
     text: &mut [u8],
 )
-    requires { ⌜ ItemReady h (now t) (inputs (now lits) (now kept) (now row) (now sums) flag) line i × (h .width ≤ length (now text)) ⌝ }
-    ensures { λ _. ⌜ now (text .exit) ≡ withItem h (now (t .entry)) (inputs (now (lits .entry)) (now (kept .entry)) (now (row .entry)) (now (sums .entry)) flag) «from_kept» page line i (now (text .entry)) ⌝ }
+    requires { ⌜ ItemReady (now t) (inputs (now lits) (now kept) (now row) (now sums)) v x (now text) ⌝ }
+    ensures { λ _. ⌜ now (text .exit) ≡ withItem (now (t .entry)) (inputs (now (lits .entry)) (now (kept .entry)) (now (row .entry)) (now (sums .entry))) v x (now (text .entry)) ⌝ }
 {
-    let at = tables::item_num(t, h, i, 0) - 1;
-    let w = tables::item_num(t, h, i, 1);
-    let indicate = tables::item_num(t, h, i, 5);
-    if (indicate == 1) & !flag {
-        splice::fill(b' ', w, at, text);
+    if (x.flag == 1) & !v.flag {
+        splice::fill(b' ', x.width as usize, x.column as usize - 1, text);
     } else {
-        put_source(
-            t,
-            h,
-            lits,
-            kept,
-            row,
-            sums,
-            from_kept,
-            page,
-            line,
-            i,
-            w,
-            at,
-            text,
-        );
+        put_source(t, lits, kept, row, sums, v, x, text);
     }
 }
 
 // The text of line l: blanks, with its items written into them.
-fn line_text<'a>(
+pub fn line_text<'a>(
     t: &[u16],
     h: Head,
     lits: &[u8],
     kept: &'a [u8],
     row: &'a [u8],
     sums: &[i64],
-    from_kept: bool,
-    flag: bool,
-    page: u32,
-    line: u64,
+    v: View,
     l: usize,
 ) -> [u8; 132]
-    requires { ⌜ LineReady h (now t) (inputs (now lits) (now kept) (now row) (now sums) flag) line l ⌝ }
-    ensures { λ r. ⌜ r ≡ lineText h (now (t .entry)) (inputs (now (lits .entry)) (now (kept .entry)) (now (row .entry)) (now (sums .entry)) flag) «from_kept» page line l ⌝ }
+    requires { ⌜ LineReady h (now t) (inputs (now lits) (now kept) (now row) (now sums)) v l ⌝ }
+    ensures { λ r. ⌜ r ≡ lineText h (now (t .entry)) (inputs (now (lits .entry)) (now (kept .entry)) (now (row .entry)) (now (sums .entry))) v l ⌝ }
 {
     let first = tables::line_num(t, h, l, 2);
     let n = tables::line_num(t, h, l, 3);
     let mut text = [b' '; 132];
     let mut m = 0;
     while m < n {
-        put_item(
-            t,
-            h,
-            lits,
-            kept,
-            row,
-            sums,
-            from_kept,
-            flag,
-            page,
-            line,
-            first + m,
-            &mut text,
-        );
+        let x = tables::item_of(t, h, first + m);
+        put_item(t, lits, kept, row, sums, v, x, &mut text);
         m += 1;
     }
     text
-}
-
-// Puts the printed record of line l, as a line of a page, and gives the offset behind it.
-pub fn put_line<'a>(
-    t: &[u16],
-    h: Head,
-    lits: &[u8],
-    kept: &'a [u8],
-    row: &'a [u8],
-    sums: &[i64],
-    from_kept: bool,
-    flag: bool,
-    page: u32,
-    line: u64,
-    l: usize,
-    at: usize,
-    out: &mut [u8],
-) -> usize
-    requires { ⌜ LineReady h (now t) (inputs (now lits) (now kept) (now row) (now sums) flag) line l × (at + length (lineBytes h (now t) (inputs (now lits) (now kept) (now row) (now sums) flag) «from_kept» page line l) ≤ length (now out)) ⌝ }
-    ensures { λ r. ⌜ Wrote (now (out .entry)) at (lineBytes h (now (t .entry)) (inputs (now (lits .entry)) (now (kept .entry)) (now (row .entry)) (now (sums .entry)) flag) «from_kept» page line l) (now (out .exit)) r ⌝ }
-{
-    let text = line_text(t, h, lits, kept, row, sums, from_kept, flag, page, line, l);
-    let w = tables::wide(h.width);
-    printed::put_record(page, line, w, &text, at, out)
 }

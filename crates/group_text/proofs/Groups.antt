@@ -1,15 +1,16 @@
 -- Laws of a group's records: one turn of the loop over its lines, and their length. Assumes nothing.
 use mathlib.Core.Path.{_≡_, refl, ap, _∙_}
 use Prim.Native.Nat.{ℕ, zero, suc, _+_, _*_, _-_, _≤_, _<_}
-use mathlib.Core.Bool.{Bool}
 use mathlib.Core.List.{List, [], _++_}
 use native.Mathlib.Nat.{suc-mul}
 use native.Mathlib.Omega.{arith}
 use lib.ListN.{length, length-append}
+use Rattle.printed.specs.Printed.{Short, recordSize}
 use Rattle.tables.specs.declared.Head.{Head}
 use Rattle.tables.specs.Table.{firstLine, lineCount}
 use Rattle.lines.specs.Lines.{lineNumber}
-use Rattle.compose.specs.Items.{Inputs}
+use Rattle.compose.specs.declared.View.{View}
+use Rattle.compose.specs.Items.{Inputs, onLine}
 use Rattle.compose.specs.Facts.{LineIn, ItemsIn}
 use Rattle.compose.proofs.Lines.{length-lineBytes}
 use Rattle.group_text.specs.Groups.{joinFrom, ownBytes, groupBytes}
@@ -49,10 +50,10 @@ module _ (f : ℕ → List ℕ) where
 pub line-in : {h : Head} {t lits : List ℕ} → ItemsIn h t lits → (g k : ℕ) → g < h .groups → k < lineCount h t g → LineIn h t lits (firstLine h t g + k)
 line-in s g k l m = record { sized = s .sized; each = λ i b. s .each g k i l m b }
 
--- "lines times W + 10"
-pub length-groupBytes : (h : Head) (t : List ℕ) (inp : Inputs) (fromKept : Bool) (page at g : ℕ) → ItemsIn h t (inp .lits) → g < h .groups
-    → length (groupBytes h t inp fromKept page at g) ≡ lineCount h t g * (h .width + 10)
+-- "lines times W + 10", and the prefix
+pub length-groupBytes : (h : Head) (t : List ℕ) (inp : Inputs) (v : View) (g : ℕ) → ItemsIn h t (inp .lits) → Short (v .prefix) → g < h .groups
+    → length (groupBytes h t inp v g) ≡ lineCount h t g * recordSize (v .prefix) (h .width)
 unfolding groupBytes
-length-groupBytes h t inp fromKept page at g s l =
-    length-join (ownBytes h t inp fromKept page at g) (lineCount h t g) 0 (h .width + 10)
-    (λ k _ m. length-lineBytes h t inp fromKept page (lineNumber h t g at k) (firstLine h t g + k) (line-in s g k l (omega arith)))
+length-groupBytes h t inp v g s p l =
+    length-join (ownBytes h t inp v g) (lineCount h t g) 0 (recordSize (v .prefix) (h .width))
+    (λ k _ m. length-lineBytes h t inp (onLine v (lineNumber h t g (v .line) k)) (firstLine h t g + k) (line-in s g k l (omega arith)) p)

@@ -1,13 +1,16 @@
 -- What printing a group takes for granted.
 use Prim.Native.Nat.{ℕ, _<_}
 use mathlib.Core.List.{List}
+use Rattle.printed.specs.Printed.{Short}
 use Rattle.tables.specs.declared.Head.{Head}
+use Rattle.compose.specs.declared.View.{View}
 use Rattle.compose.specs.Items.{Inputs}
 use Rattle.compose.specs.Facts.{ItemsIn, Readable}
 
 -- group g can be printed from a line of a page on
-pub record GroupReady (h : Head) (t : List ℕ) (inp : Inputs) (at g : ℕ) : Type 0 where
+pub record GroupReady (h : Head) (t : List ℕ) (inp : Inputs) (v : View) (g : ℕ) : Type 0 where
   pub items : ItemsIn h t (inp .lits)
   pub readable : Readable h t inp
+  pub prefix : Short (v .prefix)
   pub group : g < h .groups
-  pub number : at < 34359738368
+  pub number : v .line < 34359738368

@@ -5,9 +5,17 @@ ghost use Rattle.splice.specs.Splice.{Wrote};
 ghost use Rattle.compose.specs.Items.{inputs};
 ghost use Rattle.group_text.specs.Groups.{groupBytes};
 ghost use Rattle.group_text.specs.Facts.{GroupReady};
+use compose::View;
 use tables::Head;
 
-// Puts the records of the lines of group g, the first on line `first` of a page, and gives the offset behind them.
+// A group to print: which one, the view of its first line, and the offset in the output.
+pub struct Print {
+    pub group: usize,
+    pub first: View,
+    pub at: usize,
+}
+
+// Puts the records of a group's lines, and gives the offset behind them.
 pub fn print_group<'a>(
     t: &[u16],
     h: Head,
@@ -15,38 +23,25 @@ pub fn print_group<'a>(
     kept: &'a [u8],
     row: &'a [u8],
     sums: &[i64],
-    from_kept: bool,
-    flag: bool,
-    page: u32,
-    first: u64,
-    g: usize,
-    at: usize,
+    p: Print,
     out: &mut [u8],
 ) -> usize
-    requires { ⌜ GroupReady h (now t) (inputs (now lits) (now kept) (now row) (now sums) flag) first g × (at + length (groupBytes h (now t) (inputs (now lits) (now kept) (now row) (now sums) flag) «from_kept» page first g) ≤ length (now out)) ⌝ }
-    ensures { λ r. ⌜ Wrote (now (out .entry)) at (groupBytes h (now (t .entry)) (inputs (now (lits .entry)) (now (kept .entry)) (now (row .entry)) (now (sums .entry)) flag) «from_kept» page first g) (now (out .exit)) r ⌝ }
+    requires { ⌜ GroupReady h (now t) (inputs (now lits) (now kept) (now row) (now sums)) (p .first) (p .group) × (p .at + length (groupBytes h (now t) (inputs (now lits) (now kept) (now row) (now sums)) (p .first) (p .group)) ≤ length (now out)) ⌝ }
+    ensures { λ r. ⌜ Wrote (now (out .entry)) (p .at) (groupBytes h (now (t .entry)) (inputs (now (lits .entry)) (now (kept .entry)) (now (row .entry)) (now (sums .entry))) (p .first) (p .group)) (now (out .exit)) r ⌝ }
 {
-    let start = tables::group_num(t, h, g, 2);
-    let n = tables::group_num(t, h, g, 3);
-    let mut line = first;
-    let mut to = at;
+    let first = p.first;
+    let start = tables::group_num(t, h, p.group, 2);
+    let n = tables::group_num(t, h, p.group, 3);
+    let w = tables::wide(h.width);
+    let mut line = first.line;
+    let mut to = p.at;
     let mut k = 0;
     while k < n {
-        to = compose::put_line(
-            t,
-            h,
-            lits,
-            kept,
-            row,
-            sums,
-            from_kept,
-            flag,
-            page,
-            line,
-            start + k,
-            to,
-            out,
-        );
+        let view = p.first;
+        let v = compose::on_line(view, line);
+        let text = compose::line_text(t, h, lits, kept, row, sums, v, start + k);
+        let prefix = v.prefix;
+        to = printed::put_record(prefix, v.page, line, w, &text, to, out);
         line += tables::line_num(t, h, start + 1 + k, 1) as u64;
         k += 1;
     }

@@ -16,7 +16,7 @@ use Rattle.layout.proofs.Steps.{group-page}
 module _ (h : Head) (t : List ℕ) where
   -- a turn: its page changes, and the group on the page that they reach
   pub group-dues : (d : Turn) (s : Pos) (r : Placed) → r ≡ placed h t d s
-      → placeGroup h t d s .dues ≡ pageChanges h t (d .kept) (r .changes) (s .page) ++ dueOf h t (d .group) (d .kept) (r .to .page) (r .at) (r .changes)
+      → placeGroup h t d s .dues ≡ pageChanges h t (d .«from_kept») (r .changes) (s .page) ++ dueOf h t (d .group) (d .«from_kept») (r .to .page) (r .at) (r .changes)
   unfolding placeGroup
   group-dues d s r e = rw (e, group-page h t d s) refl
 
@@ -25,10 +25,10 @@ module _ (h : Head) (t : List ℕ) where
   group-to d s r e = rw e refl
 
   -- a page change: PF, and PH on the next page
-  pub change-dues : (kept : Bool) (page : ℕ) (pf ph : Start) → pf ≡ startAt h t (h .ft) 5 → ph ≡ startAt h t (aboveHead h) 1
-      → pageChange h t kept page ≡ dueOf h t (pf .group) kept page (pf .at) 0 ++ dueOf h t (ph .group) kept (page + 1) (ph .at) 0
+  pub change-dues : (fromKept : Bool) (page : ℕ) (pf ph : Start) → pf ≡ startAt h t (h .ft) 5 → ph ≡ startAt h t (aboveHead h) 1
+      → pageChange h t fromKept page ≡ dueOf h t (pf .group) fromKept page (pf .at) 0 ++ dueOf h t (ph .group) fromKept (page + 1) (ph .at) 0
   unfolding pageChange
-  change-dues kept page pf ph e f = rw (e, f) refl
+  change-dues fromKept page pf ph e f = rw (e, f) refl
 
   pub opening-dues : (rh ph : Start) → rh ≡ startAt h t (aboveHead h) 0 → ph ≡ startAt h t (headEnd h t) 1
       → opening h t .dues ≡ dueOf h t (rh .group) false 1 (rh .at) 0 ++ dueOf h t (ph .group) false 1 (ph .at) 0

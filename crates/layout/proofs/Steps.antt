@@ -42,15 +42,15 @@ module _ (h : Head) (t : List ℕ) where
   place-end ds s e = rw e refl
 
   -- page changes one after the other
-  pub change-step : (kept : Bool) (n page : ℕ) → 0 < n → pageChanges h t kept n page ≡ pageChange h t kept page ++ pageChanges h t kept (n - 1) (page + 1)
+  pub change-step : (fromKept : Bool) (n page : ℕ) → 0 < n → pageChanges h t fromKept n page ≡ pageChange h t fromKept page ++ pageChanges h t fromKept (n - 1) (page + 1)
   unfolding pageChanges
-  change-step kept zero page l = absurd (omega arith)
-  change-step kept (suc n) page l = rw sub-one refl
+  change-step fromKept zero page l = absurd (omega arith)
+  change-step fromKept (suc n) page l = rw sub-one refl
 
-  pub change-end : (kept : Bool) (n page : ℕ) → n ≤ 0 → pageChanges h t kept n page ≡ []
+  pub change-end : (fromKept : Bool) (n page : ℕ) → n ≤ 0 → pageChanges h t fromKept n page ≡ []
   unfolding pageChanges
-  change-end kept zero page l = refl
-  change-end kept (suc n) page l = absurd (omega arith)
+  change-end fromKept zero page l = refl
+  change-end fromKept (suc n) page l = absurd (omega arith)
 
   -- a turn makes at most two page changes, and ends on the page that they reach
   pub group-changes : (d : Turn) (s : Pos) → placed h t d s .changes ≤ 2
@@ -73,19 +73,19 @@ module _ (h : Head) (t : List ℕ) where
   place-page [] s = omega arith
   place-page (d ∷ ds) s = let n = group-near d s in let e = place-page ds (placeGroup h t d s .to) in omega arith
 
-  module _ (opens : Bool) (p : Plan) (closes : Bool) (s : Pos) where
+  module _ (p : Plan) (s : Pos) where
     -- the place after the opening, and after the body groups
     abbrev pub afterOpening : Pos
-    afterOpening = opened h t opens s .to
+    afterOpening = opened h t p s .to
 
     abbrev pub afterBody : Pos
     afterBody = placeAll h t (turns h t p) afterOpening .to
 
-    pub layout-dues : layout h t opens p closes s .dues
-        ≡ opened h t opens s .dues ++ (placeAll h t (turns h t p) afterOpening .dues ++ closed h t closes afterBody .dues)
+    pub layout-dues : layout h t p s .dues
+        ≡ opened h t p s .dues ++ (placeAll h t (turns h t p) afterOpening .dues ++ closed h t p afterBody .dues)
     unfolding layout
     layout-dues = refl
 
-    pub layout-to : layout h t opens p closes s .to ≡ closed h t closes afterBody .to
+    pub layout-to : layout h t p s .to ≡ closed h t p afterBody .to
     unfolding layout
     layout-to = refl

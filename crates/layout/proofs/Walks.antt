@@ -1,11 +1,11 @@
 -- A pass over the turns of a plan by their number: what is left from turn k and a place on gives what all of them give from the start.
 -- The pass that measures and the pass that prints share it. Assumes nothing.
 use mathlib.Core.Path.{_≡_, refl, sym, ap, _∙_}
-use mathlib.Core.Bool.{Bool, true, false}
 use mathlib.Core.List.{List, []}
 use Prim.Native.Nat.{ℕ, _+_, _*_, _≤_, _<_}
 use native.Mathlib.Omega.{arith}
 use lib.ListN.{drop}
+use Rattle.counts.proofs.Laws.{by-cond}
 use Rattle.tables.specs.declared.Head.{Head}
 use Rattle.plan.specs.declared.Turn.{Turn}
 use Rattle.plan.specs.declared.Plan.{Plan}
@@ -55,10 +55,12 @@ module _ (h : Head) (t : List ℕ) (p : Plan) where
   }
 
   -- the opening leaves page 1
-  pub called-opened : (opens : Bool) (s : Pos) → Called h t p s → Called h t p (opened h t opens s .to)
+  pub called-opened : (s : Pos) → Called h t p s → Called h t p (opened h t p s .to)
   unfolding opening
-  called-opened true s c = record { small = c .small; planned = c .planned; page = omega arith }
-  called-opened false s c = c
+  called-opened s c =
+      by-cond (λ (x : Laid). Called h t p (x .to)) (p .opens)
+      (λ e. record { small = c .small; planned = c .planned; page = omega arith })
+      (λ e. c)
 
   pub body-page : (s : Pos) → Called h t p s → placeAll h t (turns h t p) s .to .page ≤ 1000100
   body-page s c = omega (arith, place-page h t (turns h t p) s, length-turns h t p, c .page, c .planned .feet, c .planned .heads)

@@ -21,7 +21,7 @@ use Rattle.layout.specs.declared.Placed.{Placed}
 -- a group due: whether it reads the kept record, its page and first line, and the page changes made for it
 pub record Due : Type 0 where
   pub group : ℕ
-  pub kept : Bool
+  pub fromKept : Bool
   pub page : ℕ
   pub at : ℕ
   pub turned : ℕ
@@ -32,8 +32,8 @@ pub record Laid : Type 0 where
 
 -- a group without lines, or that is not there, is never due
 unfoldable pub dueOf : Head → List ℕ → ℕ → Bool → ℕ → ℕ → ℕ → List Due
-dueOf h t g kept page at turned =
-    cond (present h t g) (record { group = g; kept = kept; page = page; at = at; turned = turned } ∷ []) []
+dueOf h t g fromKept page at turned =
+    cond (present h t g) (record { group = g; fromKept = fromKept; page = page; at = at; turned = turned } ∷ []) []
 
 abbrev pub reportHeading : Head → List ℕ → ℕ
 reportHeading h t = theGroup h t 0 0
@@ -49,14 +49,14 @@ reportFooting h t = theGroup h t 6 0
 
 -- "A page change prints PF, adds 1 to page, .. prints PH."; "A PH or PF printed for a group reads as that group does."
 unfoldable pub pageChange : Head → List ℕ → Bool → ℕ → List Due
-pageChange h t kept page =
-    dueOf h t (pageFooting h t) kept page (startFrom h t (h .ft) (pageFooting h t)) 0
-    ++ dueOf h t (pageHeading h t) kept (page + 1) (startFrom h t (aboveHead h) (pageHeading h t)) 0
+pageChange h t fromKept page =
+    dueOf h t (pageFooting h t) fromKept page (startFrom h t (h .ft) (pageFooting h t)) 0
+    ++ dueOf h t (pageHeading h t) fromKept (page + 1) (startFrom h t (aboveHead h) (pageHeading h t)) 0
 
 -- n page changes
 unfoldable pub pageChanges : Head → List ℕ → Bool → ℕ → ℕ → List Due
-pageChanges h t kept zero page = []
-pageChanges h t kept (suc n) page = pageChange h t kept page ++ pageChanges h t kept n (page + 1)
+pageChanges h t fromKept zero page = []
+pageChanges h t fromKept (suc n) page = pageChange h t fromKept page ++ pageChanges h t fromKept n (page + 1)
 
 -- "Then, if the group has a next group (ignored on a CF more junior than b)"
 abbrev pub nextFor : Head → List ℕ → Turn → Next
@@ -84,8 +84,8 @@ placed h t d s = cond (present h t (d .group)) (placedLines h t d s) (record { c
 unfoldable pub placeGroup : Head → List ℕ → Turn → Pos → Laid
 placeGroup h t d s = record {
   dues =
-      pageChanges h t (d .kept) (placed h t d s .changes) (s .page)
-      ++ dueOf h t (d .group) (d .kept) (s .page + placed h t d s .changes) (placed h t d s .at) (placed h t d s .changes);
+      pageChanges h t (d .«from_kept») (placed h t d s .changes) (s .page)
+      ++ dueOf h t (d .group) (d .«from_kept») (s .page + placed h t d s .changes) (placed h t d s .at) (placed h t d s .changes);
   to = placed h t d s .to;
 }
 
@@ -158,16 +158,15 @@ abbrev pub nothing : Pos → Laid
 nothing s = record { dues = []; to = s }
 
 -- RH and PH before the body groups where the call opens the report; PF and RF after them where it closes it
-abbrev pub opened : Head → List ℕ → Bool → Pos → Laid
-opened h t opens s = cond opens (opening h t) (nothing s)
+abbrev pub opened : Head → List ℕ → Plan → Pos → Laid
+opened h t p s = cond (p .opens) (opening h t) (nothing s)
 
-abbrev pub closed : Head → List ℕ → Bool → Pos → Laid
-closed h t closes s = cond closes (closing h t s) (nothing s)
+abbrev pub closed : Head → List ℕ → Plan → Pos → Laid
+closed h t p s = cond (p .closes) (closing h t s) (nothing s)
 
--- what a call makes due: "First GENERATE" opens with `firstPlan`, a later one has `laterPlan`, "TERMINATE .. when running" closes after
--- `lastPlan`
-unfoldable pub layout : Head → List ℕ → Bool → Plan → Bool → Pos → Laid
-layout h t opens p closes s =
-    let a = opened h t opens s in
+-- what a call makes due: "First GENERATE" with `firstPlan`, a later one with `laterPlan`, "TERMINATE .. when running" with `lastPlan`
+unfoldable pub layout : Head → List ℕ → Plan → Pos → Laid
+layout h t p s =
+    let a = opened h t p s in
     let b = placeAll h t (turns h t p) (a .to) in
-    after a (after b (closed h t closes (b .to)))
+    after a (after b (closed h t p (b .to)))

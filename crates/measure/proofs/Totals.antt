@@ -31,14 +31,14 @@ module _ (h : Head) (t : List ℕ) where
   due-lines true u = omega arith
   due-lines false u = refl
 
-  pub total-due : (g : ℕ) (kept : Bool) (page at turned : ℕ) → lineTotal h t (dueOf h t g kept page at turned) ≡ linesDue h t g
+  pub total-due : (g : ℕ) (fromKept : Bool) (page at turned : ℕ) → lineTotal h t (dueOf h t g fromKept page at turned) ≡ linesDue h t g
   unfolding dueOf
-  total-due g kept page at turned = due-lines (present h t g) _
+  total-due g fromKept page at turned = due-lines (present h t g) _
 
-  pub total-changes : (kept : Bool) (n page : ℕ) → lineTotal h t (pageChanges h t kept n page) ≡ n * pairLines h t 5 1
+  pub total-changes : (fromKept : Bool) (n page : ℕ) → lineTotal h t (pageChanges h t fromKept n page) ≡ n * pairLines h t 5 1
   unfolding pageChanges pageChange lineTotal
-  total-changes kept zero page = omega arith
-  total-changes kept (suc n) page = let e = total-changes kept n (page + 1) in simp (total-append, total-due) (omega (arith, e))
+  total-changes fromKept zero page = omega arith
+  total-changes fromKept (suc n) page = let e = total-changes fromKept n (page + 1) in simp (total-append, total-due) (omega (arith, e))
 
   pub total-group : (d : Turn) (s : Pos) → lineTotal h t (placeGroup h t d s .dues)
       ≡ placed h t d s .changes * pairLines h t 5 1 + linesDue h t (d .group)
@@ -80,11 +80,11 @@ module _ (h : Head) (t : List ℕ) where
   unfolding lineTotal
   added-nothing m = let e : m .lines ≡ m .lines + 0 = omega arith in ap (λ (n : ℕ). record { lines = n; to = m .to }) e
 
-  pub layout-from : (opens : Bool) (p : Plan) (closes : Bool) (s : Pos) (a b r : Measured) → a ≡ measured h t (opened h t opens s)
-      → b ≡ added h t a (placeAll h t (turns h t p) (a .to)) → r ≡ added h t b (closed h t closes (b .to)) → r ≡ measured h t (layout h t opens p closes s)
+  pub layout-from : (p : Plan) (s : Pos) (a b r : Measured) → a ≡ measured h t (opened h t p s)
+      → b ≡ added h t a (placeAll h t (turns h t p) (a .to)) → r ≡ added h t b (closed h t p (b .to)) → r ≡ measured h t (layout h t p s)
   unfolding layout
-  layout-from opens p closes s a b r ea eb er =
-      let x = opened h t opens s in
+  layout-from p s a b r ea eb er =
+      let x = opened h t p s in
       let y = placeAll h t (turns h t p) (x .to) in
-      let z = closed h t closes (y .to) in
+      let z = closed h t p (y .to) in
       rw (er, eb, ea) (sym (measured-after x (after y z) ∙ added-after (measured h t x) y z))

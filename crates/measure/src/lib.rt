@@ -81,11 +81,11 @@ fn measure_turns(t: &[u16], h: Head, p: Plan, m: Measured) -> Measured
 }
 
 // RH and PH measured where the call opens the report.
-fn measure_opening(t: &[u16], h: Head, opens: bool, s: Pos) -> Measured
+fn measure_opening(t: &[u16], h: Head, p: Plan, s: Pos) -> Measured
     requires { ⌜ Small h (now t) ⌝ }
-    ensures { λ r. ⌜ Counted (measured h (now (t .entry)) (opened h (now (t .entry)) opens s)) 131072 r ⌝ }
+    ensures { λ r. ⌜ Counted (measured h (now (t .entry)) (opened h (now (t .entry)) p s)) 131072 r ⌝ }
 {
-    if opens {
+    if p.opens {
         let lines = pair_lines(t, h, 0, 1);
         let to = layout::after_opening(t, h);
         return Measured { lines, to };
@@ -94,11 +94,11 @@ fn measure_opening(t: &[u16], h: Head, opens: bool, s: Pos) -> Measured
 }
 
 // PF and RF measured where the call closes the report.
-fn measure_closing(t: &[u16], h: Head, closes: bool, m: Measured) -> Measured
+fn measure_closing(t: &[u16], h: Head, p: Plan, m: Measured) -> Measured
     requires { ⌜ Small h (now t) × ((m .to .page ≤ 1000100) × (m .lines ≤ 5800000)) ⌝ }
-    ensures { λ r. ⌜ Counted (added h (now (t .entry)) m (closed h (now (t .entry)) closes (m .to))) 6000000 r ⌝ }
+    ensures { λ r. ⌜ Counted (added h (now (t .entry)) m (closed h (now (t .entry)) p (m .to))) 6000000 r ⌝ }
 {
-    if closes {
+    if p.closes {
         let from = m.to;
         let lines = pair_lines(t, h, 5, 6);
         let to = layout::after_closing(t, h, from);
@@ -111,11 +111,11 @@ fn measure_closing(t: &[u16], h: Head, closes: bool, m: Measured) -> Measured
 }
 
 // A whole call measured.
-pub fn measure(t: &[u16], h: Head, opens: bool, p: Plan, closes: bool, s: Pos) -> Measured
+pub fn measure(t: &[u16], h: Head, p: Plan, s: Pos) -> Measured
     requires { ⌜ Called h (now t) p s ⌝ }
-    ensures { λ r. ⌜ Counted (measured h (now (t .entry)) (layoutSpec h (now (t .entry)) opens p closes s)) 6000000 r ⌝ }
+    ensures { λ r. ⌜ Counted (measured h (now (t .entry)) (layoutSpec h (now (t .entry)) p s)) 6000000 r ⌝ }
 {
-    let first = measure_opening(t, h, opens, s);
+    let first = measure_opening(t, h, p, s);
     let body = measure_turns(t, h, p, first);
-    measure_closing(t, h, closes, body)
+    measure_closing(t, h, p, body)
 }

@@ -194,15 +194,15 @@ module _ (h : Head) (t : List ℕ) (r : ℕ) (fits : PageFits h t) where
       let v = all-placed h t r fits (turns h t p) s (turns-ok p k) run in
       placed-after h t r fits s (placeAll h t (turns h t p) s) (nothing (placeAll h t (turns h t p) s .to)) v (placed-none h t r fits (placeAll h t (turns h t p) s .to) (v .running))
 
-  pub first-placed : (p : Plan) (s : Pos) → DetailOk (p .detail) → s .page ≡ 1 → s .spot .line ≡ 0 → Placed h t r s (layout h t true p false s)
+  pub first-placed : (g : ℕ) (s : Pos) → DetailOk g → s .page ≡ 1 → s .spot .line ≡ 0 → Placed h t r s (layout h t (firstPlan h g) s)
   unfolding layout
-  first-placed p s k e1 e2 = let v = opening-placed s e1 e2 in placed-after h t r fits s (opening h t) _ v (body p (opening h t .to) k (v .running))
+  first-placed g s k e1 e2 = let v = opening-placed s e1 e2 in placed-after h t r fits s (opening h t) _ v (body (firstPlan h g) (opening h t .to) k (v .running))
 
-  pub later-placed : (p : Plan) (s : Pos) → DetailOk (p .detail) → Running (frameOf h t) (s .spot) → Placed h t r s (layout h t false p false s)
+  pub later-placed : (b g : ℕ) (s : Pos) → DetailOk g → Running (frameOf h t) (s .spot) → Placed h t r s (layout h t (laterPlan h b g) s)
   unfolding layout
-  later-placed p s k run = placed-after h t r fits s (nothing s) _ (placed-none h t r fits s run) (body p s k run)
+  later-placed b g s k run = placed-after h t r fits s (nothing s) _ (placed-none h t r fits s run) (body (laterPlan h b g) s k run)
 
-  pub last-placed : (s : Pos) → Running (frameOf h t) (s .spot) → Closed h t r s (layout h t false (lastPlan h) true s)
+  pub last-placed : (s : Pos) → Running (frameOf h t) (s .spot) → Closed h t r s (layout h t (lastPlan h) s)
   unfolding layout
   last-placed s run =
       let a = placeAll h t (turns h t (lastPlan h)) s in

@@ -147,12 +147,12 @@ module _ (h : Head) (t : List ℕ) (r : ℕ) (fits : PageFits h t) where
         let lo = rankAt r s in
         let m = mark (lands .changes) (s .page) lo in
         let grow : x ≤ followed (h .ft) (nextFor h t d) x (lands .spot .saved) .line = followed-ge (h .ft) (nextFor h t d) x (lands .spot .saved) (omega (arith, i .1, i .2)) in
-        let a = changes-sound (lands .changes) (s .page) lo (d .kept) (omega (arith, line-in)) in
-        let b = body-sound h t r fits g c (lands .at) (lands .changes) (d .kept) m (rank r c x) p (mark-under (lands .changes) (s .page) (s .spot .line) (lands .at) lands-up (i .0)) (omega arith) (omega (arith, part .0, i .0)) (omega (arith, part .1, i .1)) in
+        let a = changes-sound (lands .changes) (s .page) lo (d .«from_kept») (omega (arith, line-in)) in
+        let b = body-sound h t r fits g c (lands .at) (lands .changes) (d .«from_kept») m (rank r c x) p (mark-under (lands .changes) (s .page) (s .spot .line) (lands .at) lands-up (i .0)) (omega arith) (omega (arith, part .0, i .0)) (omega (arith, part .1, i .1)) in
         rw p
         (record {
-          sound = sound-wider h t r lo (rank r c x) _ _ (omega (arith, grow)) (sound-append h t r lo m (rank r c x) (pageChanges h t (d .kept) (lands .changes) (s .page)) (dueOf h t g (d .kept) c (lands .at) (lands .changes)) a b);
-          paged = λ u w e f. body-walk h t (lands .changes) (d .kept) (s .page) g (lands .at) u w p k (at-most-two (frameOf h t) (bodyOf h t g) (s .spot)) e f;
+          sound = sound-wider h t r lo (rank r c x) _ _ (omega (arith, grow)) (sound-append h t r lo m (rank r c x) (pageChanges h t (d .«from_kept») (lands .changes) (s .page)) (dueOf h t g (d .«from_kept») c (lands .at) (lands .changes)) a b);
+          paged = λ u w e f. body-walk h t (lands .changes) (d .«from_kept») (s .page) g (lands .at) u w p k (at-most-two (frameOf h t) (bodyOf h t g) (s .spot)) e f;
           running = leaves;
           pages = omega arith;
         })

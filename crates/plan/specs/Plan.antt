@@ -10,13 +10,13 @@ use Rattle.plan.specs.declared.Plan.{Plan}
 
 -- the control footing of level b + j: "ignored on a CF more junior than b"; "Control footings .. read fields from the kept record"
 abbrev pub footing : Head → List ℕ → ℕ → ℕ → Turn
-footing h t b j = record { group = theGroup h t 4 (b + j); follows = eqb j 0; kept = true }
+footing h t b j = record { group = theGroup h t 4 (b + j); follows = eqb j 0; «from_kept» = true }
 
 abbrev pub heading : Head → List ℕ → ℕ → Turn
-heading h t level = record { group = theGroup h t 2 level; follows = true; kept = false }
+heading h t level = record { group = theGroup h t 2 level; follows = true; «from_kept» = false }
 
 abbrev pub detail : ℕ → Turn
-detail g = record { group = g; follows = true; kept = false }
+detail g = record { group = g; follows = true; «from_kept» = false }
 
 -- "CFs from junior up to b": those of n levels from b down
 unfoldable pub footings : Head → List ℕ → ℕ → ℕ → List Turn
@@ -32,17 +32,17 @@ headings h t b (suc n) = heading h t b ∷ headings h t (b + 1) n
 unfoldable pub turns : Head → List ℕ → Plan → List Turn
 turns h t p = footings h t (p .level) (p .feet) ++ (headings h t (p .level) (p .heads) ++ (detail (p .detail) ∷ []))
 
--- "First GENERATE: .. all CH senior to junior; .. then the detail."
+-- "First GENERATE: .. RH, PH, .. all CH senior to junior; .. then the detail."
 abbrev pub firstPlan : Head → ℕ → Plan
-firstPlan h g = record { level = 0; feet = 0; heads = h .controls; detail = g }
+firstPlan h g = record { opens = true; level = 0; feet = 0; heads = h .controls; detail = g; closes = false }
 
 -- "On a break at level b: CFs from junior up to b, .. then CHs from b down; then .. detail." Without a break b is the number of controls.
 abbrev pub laterPlan : Head → ℕ → ℕ → Plan
-laterPlan h b g = record { level = b; feet = h .controls - b; heads = h .controls - b; detail = g }
+laterPlan h b g = record { opens = false; level = b; feet = h .controls - b; heads = h .controls - b; detail = g; closes = false }
 
--- "TERMINATE ..: break at level 0, all CFs"
+-- "TERMINATE ..: break at level 0, all CFs, then PF, RF"
 abbrev pub lastPlan : Head → Plan
-lastPlan h = record { level = 0; feet = h .controls; heads = 0; detail = h .groups }
+lastPlan h = record { opens = false; level = 0; feet = h .controls; heads = 0; detail = h .groups; closes = true }
 
 -- how many turns, and turn k, as the code finds it
 abbrev pub turnCount : Plan → ℕ

@@ -9,16 +9,19 @@ use tables::Head;
 pub struct Turn {
     pub group: usize,
     pub follows: bool,
-    pub kept: bool,
+    pub from_kept: bool,
 }
 
-// The body groups of a call: `feet` control footings from the junior end up to level `level`, `heads` control
-// headings from there down, and the detail's group (the number of groups where there is none).
+// The groups of a call: whether it opens the report with RH and PH; `feet` control footings from the junior end up to
+// level `level`, `heads` control headings from there down, and the detail's group (the number of groups where there is
+// none); and whether it closes the report with PF and RF.
 pub struct Plan {
+    pub opens: bool,
     pub level: usize,
     pub feet: usize,
     pub heads: usize,
     pub detail: usize,
+    pub closes: bool,
 }
 
 // The plan of the first GENERATE, whose detail is group `g`.
@@ -26,10 +29,12 @@ pub fn first_plan(h: Head, g: usize) -> Plan
     ensures { λ r. ⌜ r ≡ firstPlan h g ⌝ }
 {
     Plan {
+        opens: true,
         level: 0,
         feet: 0,
         heads: tables::wide(h.controls),
         detail: g,
+        closes: false,
     }
 }
 
@@ -40,10 +45,12 @@ pub fn later_plan(h: Head, b: usize, g: usize) -> Plan
 {
     let n = tables::wide(h.controls) - b;
     Plan {
+        opens: false,
         level: b,
         feet: n,
         heads: n,
         detail: g,
+        closes: false,
     }
 }
 
@@ -52,10 +59,12 @@ pub fn last_plan(h: Head) -> Plan
     ensures { λ r. ⌜ r ≡ lastPlan h ⌝ }
 {
     Plan {
+        opens: false,
         level: 0,
         feet: tables::wide(h.controls),
         heads: 0,
         detail: tables::wide(h.groups),
+        closes: true,
     }
 }
 
@@ -69,19 +78,19 @@ pub fn turn_at(t: &[u16], h: Head, p: Plan, k: usize) -> Turn
         return Turn {
             group: lookup::find(t, h, 4, p.level + j),
             follows: j == 0,
-            kept: true,
+            from_kept: true,
         };
     }
     if k < p.feet + p.heads {
         return Turn {
             group: lookup::find(t, h, 2, p.level + (k - p.feet)),
             follows: true,
-            kept: false,
+            from_kept: false,
         };
     }
     Turn {
         group: p.detail,
         follows: true,
-        kept: false,
+        from_kept: false,
     }
 }

@@ -1,20 +1,26 @@
 -- Laws of the printed record and the line buffer: lengths. Assumes nothing.
-use mathlib.Core.Path.{_≡_, ap, _∙_}
+use mathlib.Core.Path.{_≡_}
 use Prim.Native.Nat.{ℕ, _+_, _≤_}
 use mathlib.Core.List.{List}
 use native.Mathlib.Omega.{arith}
 use lib.ListN.{length, take, length-append, length-replicate}
 use lib.Seq.{length-take-le}
 use Rattle.figures.proofs.Laws.{length-digits}
-use Rattle.printed.specs.Printed.{printed, blanks}
+use Rattle.printed.specs.declared.Prefix.{Prefix}
+use Rattle.printed.specs.Printed.{inFront, Short, numbered, printed, recordSize, blanks}
 
-pub length-record : (page line w : ℕ) (text : List ℕ) → length (printed page line w text) ≡ length (take w text) + 10
+pub length-front : (p : Prefix) → Short p → length (inFront p) ≡ p .len
+length-front p s = length-take-le (p .len) (p .bytes) (omega (arith, s .size, s .few))
+
+pub length-numbered : (page line w : ℕ) (text : List ℕ) → length (numbered page line w text) ≡ length (take w text) + 10
+unfolding numbered
+length-numbered page line w text = simp (length-append, length-digits) (omega arith)
+
+-- a record is W + 10 bytes long, and its prefix
+pub length-printed : (p : Prefix) → Short p → (page line w : ℕ) (text : List ℕ) → w ≤ length text → length (printed p page line w text) ≡ recordSize p w
 unfolding printed
-length-record page line w text = simp (length-append, length-digits) (omega arith)
-
--- a record is W + 10 bytes long
-pub length-printed : (page line w : ℕ) (text : List ℕ) → w ≤ length text → length (printed page line w text) ≡ w + 10
-length-printed page line w text h = length-record page line w text ∙ ap (λ (k : ℕ). k + 10) (length-take-le w text h)
+length-printed p s page line w text h =
+    simp length-append (omega (arith, length-front p s, length-numbered page line w text, length-take-le w text h))
 
 pub length-blanks : length blanks ≡ 132
 unfolding blanks

@@ -1,11 +1,38 @@
-// The printed record of a line: page, line, the characters of the line, and a line end.
+// The printed record of a line: what stands in front, page, line, the characters of the line, and a line end.
+ghost use mathlib.Core.Path.{_≡_};
 ghost use Prim.Native.Nat.{_+_, _≤_};
 ghost use lib.ListN.{length};
 ghost use Rattle.splice.specs.Splice.{Wrote};
-ghost use Rattle.printed.specs.Printed.{printed};
+ghost use Rattle.printed.specs.Printed.{inFront, noPrefix, Short, numbered, printed};
 
-// Puts the record of a line whose text is the first w bytes of a line buffer, and gives the offset behind it.
-pub fn put_record(
+// What stands in front of each printed record: the first `len` of two bytes.
+pub struct Prefix {
+    pub bytes: [u8; 2],
+    pub len: usize,
+}
+
+// Nothing in front.
+pub fn no_prefix() -> Prefix
+    ensures { λ r. ⌜ r ≡ noPrefix ⌝ }
+{
+    Prefix {
+        bytes: [0; 2],
+        len: 0,
+    }
+}
+
+// Puts a prefix, and gives the offset behind it.
+fn put_front(prefix: Prefix, at: usize, out: &mut [u8]) -> usize
+    requires { ⌜ Short prefix × (at + prefix .len ≤ length (now out)) ⌝ }
+    ensures { λ r. ⌜ Wrote (now (out .entry)) at (inFront prefix) (now (out .exit)) r ⌝ }
+{
+    let bytes = prefix.bytes;
+    splice::copy(&bytes, prefix.len, at, out);
+    at + prefix.len
+}
+
+// Puts the record, all but its prefix, and gives the offset behind it.
+fn put_numbered(
     page: u32,
     line: u64,
     w: usize,
@@ -13,8 +40,8 @@ pub fn put_record(
     at: usize,
     out: &mut [u8],
 ) -> usize
-    requires { ⌜ (w ≤ 132) × (at + length (printed page line w (now text)) ≤ length (now out)) ⌝ }
-    ensures { λ r. ⌜ Wrote (now (out .entry)) at (printed page line w (now (text .entry))) (now (out .exit)) r ⌝ }
+    requires { ⌜ (w ≤ 132) × (at + length (numbered page line w (now text)) ≤ length (now out)) ⌝ }
+    ensures { λ r. ⌜ Wrote (now (out .entry)) at (numbered page line w (now (text .entry))) (now (out .exit)) r ⌝ }
 {
     figures::spell(page as u64, 6, at, out);
     figures::spell(line, 3, at + 6, out);
@@ -22,4 +49,21 @@ pub fn put_record(
     let end = at + 9 + w;
     splice::fill(b'\n', 1, end, out);
     end + 1
+}
+
+// Puts the record of a line whose text is the first w bytes of a line buffer, and gives the offset behind it.
+pub fn put_record(
+    prefix: Prefix,
+    page: u32,
+    line: u64,
+    w: usize,
+    text: &[u8; 132],
+    at: usize,
+    out: &mut [u8],
+) -> usize
+    requires { ⌜ Short prefix × ((w ≤ 132) × (at + length (printed prefix page line w (now text)) ≤ length (now out))) ⌝ }
+    ensures { λ r. ⌜ Wrote (now (out .entry)) at (printed prefix page line w (now (text .entry))) (now (out .exit)) r ⌝ }
+{
+    let start = put_front(prefix, at, out);
+    put_numbered(page, line, w, text, start, out)
 }

@@ -1,4 +1,4 @@
--- `compose::put_literal` meets its contract: the first w bytes of the literals behind the offset. Assumes nothing.
+-- `compose::put_literal` meets its contract: the first bytes of the literals behind the offset. Assumes nothing.
 use mathlib.Core.Path.{ap, _∙_}
 use Prim.Native.Nat.{_-_}
 use native.Mathlib.Omega.{arith}
@@ -11,14 +11,18 @@ use Rattle.compose.proofs.put_literal.Tie as tie
 
 returns : tie.Need-returns
 returns c =
-    let a = c .before .before .before .before .before .before .before .args in
+    let a = c .before .before .before .before .before .before .before .before .before .before .args in
     c .before .before .copy .ensures
-    ∙ ap (splice (a .text .now) (a .at)) (take-take (a .w) (length (a .lits .now) - a .offset) (drop (a .offset) (a .lits .now)) (omega arith))
+    ∙ ap (splice (a .text .now) (a .x .column - 1)) (take-take (a .x .width) (length (a .lits .now) - a .x .index) (drop (a .x .index) (a .lits .now)) (omega (arith, c .before .before .before .before .before .before .before .before .before .before .pre .1)))
 
 pub put-literal-spec : {M : Type 1} → statement M
 put-literal-spec =
     tie.close
     (tie.spec
+    (λ c. search needs)
+    (λ c. search needs)
+    (λ c. search needs)
+    (λ c. search needs)
     (λ c. search needs)
     (λ c. search needs)
     (λ c. search needs)

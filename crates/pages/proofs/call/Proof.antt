@@ -2,37 +2,43 @@
 use mathlib.Core.Path.{refl}
 use native.Mathlib.Omega.{arith}
 use borrow.Author.Needs.{needs}
-use Rattle.compose.specs.Items.{inputs}
+use Rattle.call_text.specs.Bytes.{Reading, reading}
 use Rattle.pages.proofs.Answers.{count-small, answer-limit, answer-short, answer-room, answer-done}
 use Rattle.pages.proofs.call.Statement.{statement}
 use Rattle.pages.proofs.call.Tie as tie
 
+abbrev read : tie.Start → Reading
+read s = let a = s .args in reading (a .lits .now) (a .kept .now) (a .row .now) (a .sums .now) (a .job .flag) (a .job .prefix)
+
 returns : tie.Need-returns
 returns c =
-    let a = c .before .before .before .before .before .before .before .before .before .args in
-    answer-limit (a .h) (a .t .now) (inputs (a .lits .now) (a .kept .now) (a .row .now) (a .sums .now) (a .flag)) _ (a .out .now) _ (c .before .before .before .measure .ensures .is) _ refl (c .if1 .taken)
+    let s = c .before .before .before .before .before .before .before .before .before .before .before .before in
+    let a = s .args in
+    answer-limit (a .h) (a .t .now) (read s) _ (a .out .now) _ (c .before .before .before .measure .ensures .is) _ refl (c .if1 .taken)
 
 mul-count : tie.Need-mul-count
 mul-count c =
-    let s = c .before .before .before .before .before .before .before .before .before .before in
-    let m = c .before .before .before .before .measure in
-    record { fits = omega (arith, count-small (m .result .lines) (c .wide .result) (m .ensures .few) (rw (c .wide .ensures .is) (s .pre .1 .items .sized .width))) }
+    let s = c .before .before .before .before .before .before .before .before .before .before .before .before .before .before in
+    let m = c .before .before .before .before .before .measure in
+    record { fits = omega (arith, count-small (m .result .lines) (c .before .wide .result) (s .args .job .prefix .len) (m .ensures .few) (rw (c .before .wide .ensures .is) (s .pre .1 .items .sized .width)) (s .pre .1 .prefix .few)) }
 
 returns-2 : tie.Need-returns-2
 returns-2 c =
-    let a = c .before .before .before .before .before .before .before .before .before .before .before .args in
-    answer-short (a .h) (a .t .now) (inputs (a .lits .now) (a .kept .now) (a .row .now) (a .sums .now) (a .flag)) _ (a .out .now) _ (c .before .before .before .before .before .measure .ensures .is) _ (c .before .wide .ensures .is) (c .before .before .if1 .left) (c .if2 .taken)
-
-print-all-requires : tie.Need-print-all-requires
-print-all-requires c κs =
-    let s = c .before .before .before .before .before .before .before .before .before .before .before .before in
+    let s = c .before .before .before .before .before .before .before .before .before .before .before .before .before .before .before in
     let a = s .args in
-    (s .pre .0, answer-room (a .h) (a .t .now) (inputs (a .lits .now) (a .kept .now) (a .row .now) (a .sums .now) (a .flag)) (a .opens) (a .p) (a .closes) (a .s) (a .out .now) _ _ (c .before .before .before .before .before .before .measure .ensures .is) (c .before .before .wide .ensures .is) (s .pre .1) (c .before .if2 .left))
+    answer-short (a .h) (a .t .now) (read s) _ (a .out .now) _ (c .before .before .before .before .before .before .measure .ensures .is) _ (c .before .before .wide .ensures .is) (c .before .before .before .if1 .left) (c .if2 .taken)
+
+print-call-requires : tie.Need-print-call-requires
+print-call-requires c κs =
+    let s = c .before .before .before .before .before .before .before .before .before .before .before .before .before .before .before .before in
+    let a = s .args in
+    (s .pre .0, answer-room (a .h) (a .t .now) (read s) (a .job .plan) (a .job .pos) (a .out .now) _ _ (c .before .before .before .before .before .before .before .measure .ensures .is) (c .before .before .before .wide .ensures .is) (s .pre .1) (c .before .if2 .left))
 
 returns-3 : tie.Need-returns-3
 returns-3 c =
-    let a = c .before .before .before .before .before .before .before .before .before .before .before .before .before .before .before .args in
-    answer-done (a .h) (a .t .now) (inputs (a .lits .now) (a .kept .now) (a .row .now) (a .sums .now) (a .flag)) _ (a .out .now) _ (c .before .before .before .before .before .before .before .before .before .measure .ensures .is) _ (c .before .before .before .before .before .wide .ensures .is) (c .before .before .before .before .before .before .if1 .left) (c .before .before .before .before .if2 .left) _ (c .before .before .print-all .ensures .wrote .out)
+    let s = c .before .before .before .before .before .before .before .before .before .before .before .before .before .before .before .before .before .before .before in
+    let a = s .args in
+    answer-done (a .h) (a .t .now) (read s) _ (a .out .now) _ (c .before .before .before .before .before .before .before .before .before .before .measure .ensures .is) _ (c .before .before .before .before .before .before .wide .ensures .is) (c .before .before .before .before .before .before .before .if1 .left) (c .before .before .before .before .if2 .left) _ (c .before .before .print-call .ensures .wrote .out)
 
 pub call-spec : {M : Type 1} → statement M
 call-spec =
@@ -42,8 +48,9 @@ call-spec =
     returns
     (λ c κs. search needs)
     (λ c. search needs)
+    (λ c. omega (arith, c .before .before .before .before .before .before .before .before .before .before .before .before .before .before .pre .1 .prefix .few, c .before .wide .ensures .small))
     mul-count
     returns-2
-    print-all-requires
+    print-call-requires
     (λ c. search needs)
     returns-3)

@@ -1,0 +1,111 @@
+-- The parts of a call printed one behind the other.
+--     turn-changes, turn-due, turn-printed          a turn: its page changes, and its group
+--     Pass, pass-start, pass-room, pass-step, pass-end      the turns of a plan
+--     body-room, end-room, all-printed              the opening, the turns and the closing
+-- Assumes nothing.
+use mathlib.Core.Path.{_≡_, refl, sym, ap, _∙_}
+use mathlib.Core.List.{List, _++_}
+use Prim.Native.Nat.{ℕ, _+_, _≤_, _<_}
+use Rattle.splice.specs.Splice.{Wrote}
+use Rattle.tables.specs.declared.Head.{Head}
+use Rattle.plan.specs.declared.Turn.{Turn}
+use Rattle.plan.specs.declared.Plan.{Plan}
+use Rattle.plan.specs.Plan.{turns, turnCount, turnAt}
+use Rattle.layout.specs.declared.Pos.{Pos}
+use Rattle.layout.specs.declared.Placed.{Placed}
+use Rattle.layout.specs.Layout.{Due, Laid, dueOf, pageChanges, placed, placeGroup, placeAll, opened, closed, layout}
+use Rattle.layout.proofs.Dues.{group-dues, group-to}
+use Rattle.layout.proofs.Steps.{layout-dues, layout-to}
+use Rattle.layout.proofs.Walks.{ahead, ahead-step, ahead-end, Walk, walk-start, walk-step, walk-end}
+use Rattle.call_text.specs.declared.Cursor.{Cursor}
+use Rattle.call_text.specs.Bytes.{Reading, dueBytes}
+use Rattle.call_text.specs.Facts.{Room, Printed}
+use Rattle.call_text.proofs.Bytes.{bytes-turned}
+use Rattle.call_text.proofs.Prints.{Printing, printing-start, printing-rest, printing-room, printing-on, printing-last, printing-end}
+
+-- one turn, from where it is placed
+module _ {h : Head} {t : List ℕ} {rd : Reading} (d : Turn) (s : Pos) (start : ℕ) (old : List ℕ) (room : Room h t rd (placeGroup h t d s .dues) start old)
+    (r : Placed) (e : r ≡ placed h t d s) (line : ℕ) (f : line ≡ r .at) where
+  abbrev changes : List Due
+  changes = pageChanges h t (d .«from_kept») (r .changes) (s .page)
+
+  abbrev group : ℕ → List Due
+  group turned = dueOf h t (d .group) (d .«from_kept») (r .to .page) line turned
+
+  both : placeGroup h t d s .dues ≡ changes ++ group (r .changes)
+  both = rw f (group-dues h t d s r e)
+
+  turned : dueBytes h t rd (group (r .changes)) ≡ dueBytes h t rd (group 0)
+  turned = bytes-turned h t rd (d .group) (d .«from_kept») (r .to .page) line (r .changes)
+
+  pub turn-changes : Room h t rd changes start old
+  turn-changes = printing-room (printing-start room) changes (group (r .changes)) both
+
+  module _ (mid : List ℕ) (a : ℕ) (w : Wrote old start (dueBytes h t rd changes) mid a) where
+    after-changes : Printing h t rd old start (placeGroup h t d s .dues) mid a (group (r .changes))
+    after-changes = printing-on (printing-start room) changes (group (r .changes)) both w
+
+    pub turn-due : Room h t rd (group 0) a mid
+    turn-due = let q = printing-rest after-changes in record { printable = q .printable; room = rw (← turned) (q .room) }
+
+    pub turn-printed : (new : List ℕ) (at : ℕ) → Wrote mid a (dueBytes h t rd (group 0)) new at → Printed h t rd (placeGroup h t d s) old start new (record { at = at; pos = r .to })
+    turn-printed new at v = record { wrote = printing-last after-changes (rw turned v); pos = sym (group-to h t d s r e) }
+
+-- the turns of a plan
+module _ (h : Head) (t : List ℕ) (rd : Reading) (p : Plan) (old : List ℕ) (start : ℕ) (from : Pos) where
+  -- before turn k
+  pub record Pass (k : ℕ) (out : List ℕ) (c : Cursor) : Type 0 where
+    pub walk : Walk h t p from k (c .pos)
+    pub left : Printing h t rd old start (ahead h t p 0 from .dues) out (c .at) (ahead h t p k (c .pos) .dues)
+
+  pub pass-start : Room h t rd (placeAll h t (turns h t p) from .dues) start old → Pass 0 old (record { at = start; pos = from })
+  pass-start r = record { walk = walk-start h t p from; left = printing-start r }
+
+  module _ (k : ℕ) (out : List ℕ) (c : Cursor) (g : Pass k out c) where
+    module _ (d : Turn) (l : k < turnCount p) (e : d ≡ turnAt h t p k) where
+      step-dues : ahead h t p k (c .pos) .dues ≡ placeGroup h t d (c .pos) .dues ++ ahead h t p (k + 1) (placeGroup h t d (c .pos) .to) .dues
+      step-dues = ap (λ (x : Laid). x .dues) (ahead-step h t p k (c .pos) d l e)
+
+      pub pass-room : Room h t rd (placeGroup h t d (c .pos) .dues) (c .at) out
+      pass-room = printing-room (g .left) _ _ step-dues
+
+      pub pass-step : (new : List ℕ) (r : Cursor) → Printed h t rd (placeGroup h t d (c .pos)) out (c .at) new r → Pass (k + 1) new r
+      pass-step new r w = record {
+        walk = rw (w .pos) (walk-step h t p from k (c .pos) d (g .walk) l e);
+        left = rw (w .pos) (printing-on (g .left) _ _ step-dues (w .wrote));
+      }
+
+    pub pass-end : turnCount p ≤ k → Printed h t rd (placeAll h t (turns h t p) from) old start out c
+    pass-end l = record {
+      wrote = printing-end (g .left) (ap (λ (x : Laid). x .dues) (ahead-end h t p k (c .pos) l));
+      pos = walk-end h t p from k (c .pos) (g .walk) l;
+    }
+
+-- the three parts of a call
+module _ {h : Head} {t : List ℕ} {rd : Reading} (p : Plan) (s : Pos) (start : ℕ) (old : List ℕ)
+    (room : Room h t rd (layout h t p s .dues) start old) where
+  abbrev body : Pos → Laid
+  body s = placeAll h t (turns h t p) s
+
+  pub first-room : Room h t rd (opened h t p s .dues) start old
+  first-room = printing-room (printing-start room) _ _ (layout-dues h t p s)
+
+  module _ (mid : List ℕ) (a : Cursor) (x : Printed h t rd (opened h t p s) old start mid a) where
+    after-first : Printing h t rd old start (layout h t p s .dues) mid (a .at) (body (a .pos) .dues ++ closed h t p (body (a .pos) .to) .dues)
+    after-first = rw (x .pos) (printing-on (printing-start room) _ _ (layout-dues h t p s) (x .wrote))
+
+    pub body-room : Room h t rd (body (a .pos) .dues) (a .at) mid
+    body-room = printing-room after-first _ _ refl
+
+    module _ (end : List ℕ) (b : Cursor) (y : Printed h t rd (body (a .pos)) mid (a .at) end b) where
+      after-body : Printing h t rd old start (layout h t p s .dues) end (b .at) (closed h t p (b .pos) .dues)
+      after-body = rw (y .pos) (printing-on after-first _ _ refl (y .wrote))
+
+      pub end-room : Room h t rd (closed h t p (b .pos) .dues) (b .at) end
+      end-room = printing-rest after-body
+
+      pub all-printed : (new : List ℕ) (r : Cursor) → Printed h t rd (closed h t p (b .pos)) end (b .at) new r → Printed h t rd (layout h t p s) old start new r
+      all-printed new r z = record {
+        wrote = printing-last after-body (z .wrote);
+        pos = z .pos ∙ rw (y .pos, x .pos) (sym (layout-to h t p s));
+      }

@@ -1,0 +1,375 @@
+// The printed records of the groups of a call, one group behind the other.
+ghost use mathlib.Core.Path.{_≡_};
+ghost use mathlib.Core.List.{_++_};
+ghost use Prim.Native.Nat.{_+_, _≤_};
+ghost use Rattle.splice.specs.Splice.{Wrote};
+ghost use Rattle.shape.specs.Facts.{Small};
+ghost use Rattle.plan.specs.Plan.{turns};
+ghost use Rattle.layout.specs.Layout.{dueOf, pageChange, pageChanges, placeGroup, placeAll, opened, closed, layout as layoutSpec};
+ghost use Rattle.layout.specs.Facts.{Called, Ready};
+ghost use Rattle.call_text.specs.Bytes.{reading, dueBytes};
+ghost use Rattle.call_text.specs.Facts.{Room, printOf, StartIn, Printed};
+use compose::View;
+use group_text::Print;
+use layout::Pos;
+use layout::Start;
+use plan::Plan;
+use plan::Turn;
+use printed::Prefix;
+use tables::Head;
+
+// Where the printing stands: the offset in the output, and the place in the report.
+pub struct Cursor {
+    pub at: usize,
+    pub pos: Pos,
+}
+
+// Two headings or footings: the first on the view's page, the second on page `next`.
+struct Pair {
+    one: Start,
+    two: Start,
+    next: u32,
+    view: View,
+    at: usize,
+}
+
+// Page changes before a group, the first from the view's page.
+struct Changes {
+    count: u16,
+    view: View,
+    at: usize,
+}
+
+// A group in its turn.
+struct Body {
+    turn: Turn,
+    pos: Pos,
+    flag: bool,
+    prefix: Prefix,
+    at: usize,
+}
+
+// The groups of a plan, from a place and an offset on.
+pub struct Task {
+    pub plan: Plan,
+    pub pos: Pos,
+    pub flag: bool,
+    pub prefix: Prefix,
+    pub at: usize,
+}
+
+// A heading or footing to print on a page.
+fn print_of(v: View, page: u32, s: Start, at: usize) -> Print
+    ensures { λ r. ⌜ r ≡ printOf v page s at ⌝ }
+{
+    let first = compose::on_page(v, page, s.at as u64);
+    Print {
+        group: s.group,
+        first,
+        at,
+    }
+}
+
+// Prints a group, if it has lines, and gives the offset behind it.
+fn print_due<'a>(
+    t: &[u16],
+    h: Head,
+    lits: &[u8],
+    kept: &'a [u8],
+    row: &'a [u8],
+    sums: &[i64],
+    p: Print,
+    out: &mut [u8],
+) -> usize
+    requires { ⌜ StartIn h (p .group) (p .first .line) × Room h (now t) (reading (now lits) (now kept) (now row) (now sums) (p .first .flag) (p .first .prefix)) (dueOf h (now t) (p .group) (p .first .«from_kept») (p .first .page) (p .first .line) 0) (p .at) (now out) ⌝ }
+    ensures { λ r. ⌜ Wrote (now (out .entry)) (p .at) (dueBytes h (now (t .entry)) (reading (now (lits .entry)) (now (kept .entry)) (now (row .entry)) (now (sums .entry)) (p .first .flag) (p .first .prefix)) (dueOf h (now (t .entry)) (p .group) (p .first .«from_kept») (p .first .page) (p .first .line) 0)) (now (out .exit)) r ⌝ }
+{
+    if fits::present_of(t, h, p.group) {
+        return group_text::print_group(t, h, lits, kept, row, sums, p, out);
+    }
+    p.at
+}
+
+// Prints two headings or footings, one behind the other.
+fn print_pair<'a>(
+    t: &[u16],
+    h: Head,
+    lits: &[u8],
+    kept: &'a [u8],
+    row: &'a [u8],
+    sums: &[i64],
+    x: Pair,
+    out: &mut [u8],
+) -> usize
+    requires { ⌜ StartIn h (x .one .group) (x .one .at) × (StartIn h (x .two .group) (x .two .at) × Room h (now t) (reading (now lits) (now kept) (now row) (now sums) (x .view .flag) (x .view .prefix)) (dueOf h (now t) (x .one .group) (x .view .«from_kept») (x .view .page) (x .one .at) 0 ++ dueOf h (now t) (x .two .group) (x .view .«from_kept») (x .next) (x .two .at) 0) (x .at) (now out)) ⌝ }
+    ensures { λ r. ⌜ Wrote (now (out .entry)) (x .at) (dueBytes h (now (t .entry)) (reading (now (lits .entry)) (now (kept .entry)) (now (row .entry)) (now (sums .entry)) (x .view .flag) (x .view .prefix)) (dueOf h (now (t .entry)) (x .one .group) (x .view .«from_kept») (x .view .page) (x .one .at) 0 ++ dueOf h (now (t .entry)) (x .two .group) (x .view .«from_kept») (x .next) (x .two .at) 0)) (now (out .exit)) r ⌝ }
+{
+    let view = x.view;
+    let one = x.one;
+    let two = x.two;
+    let first = print_of(view, view.page, one, x.at);
+    let a = print_due(t, h, lits, kept, row, sums, first, out);
+    let second = print_of(view, x.next, two, a);
+    print_due(t, h, lits, kept, row, sums, second, out)
+}
+
+// Prints one page change: PF, and PH on the next page.
+fn print_change<'a>(
+    t: &[u16],
+    h: Head,
+    lits: &[u8],
+    kept: &'a [u8],
+    row: &'a [u8],
+    sums: &[i64],
+    x: Changes,
+    out: &mut [u8],
+) -> usize
+    requires { ⌜ (x .view .page ≤ 1000200) × Room h (now t) (reading (now lits) (now kept) (now row) (now sums) (x .view .flag) (x .view .prefix)) (pageChange h (now t) (x .view .«from_kept») (x .view .page)) (x .at) (now out) ⌝ }
+    ensures { λ r. ⌜ Wrote (now (out .entry)) (x .at) (dueBytes h (now (t .entry)) (reading (now (lits .entry)) (now (kept .entry)) (now (row .entry)) (now (sums .entry)) (x .view .flag) (x .view .prefix)) (pageChange h (now (t .entry)) (x .view .«from_kept») (x .view .page))) (now (out .exit)) r ⌝ }
+{
+    let view = x.view;
+    let footing = layout::page_footing(t, h);
+    let heading = layout::page_heading(t, h);
+    let pair = Pair {
+        one: footing,
+        two: heading,
+        next: view.page + 1,
+        view,
+        at: x.at,
+    };
+    print_pair(t, h, lits, kept, row, sums, pair, out)
+}
+
+// Prints the page changes before a group.
+fn print_changes<'a>(
+    t: &[u16],
+    h: Head,
+    lits: &[u8],
+    kept: &'a [u8],
+    row: &'a [u8],
+    sums: &[i64],
+    x: Changes,
+    out: &mut [u8],
+) -> usize
+    requires { ⌜ (x .view .page + x .count ≤ 1000200) × Room h (now t) (reading (now lits) (now kept) (now row) (now sums) (x .view .flag) (x .view .prefix)) (pageChanges h (now t) (x .view .«from_kept») (x .count) (x .view .page)) (x .at) (now out) ⌝ }
+    ensures { λ r. ⌜ Wrote (now (out .entry)) (x .at) (dueBytes h (now (t .entry)) (reading (now (lits .entry)) (now (kept .entry)) (now (row .entry)) (now (sums .entry)) (x .view .flag) (x .view .prefix)) (pageChanges h (now (t .entry)) (x .view .«from_kept») (x .count) (x .view .page))) (now (out .exit)) r ⌝ }
+{
+    let from = x.view;
+    let mut left = x.count;
+    let mut page = from.page;
+    let mut to = x.at;
+    while left > 0 {
+        let view = compose::on_page(from, page, 0);
+        let change = Changes {
+            count: 1,
+            view,
+            at: to,
+        };
+        to = print_change(t, h, lits, kept, row, sums, change, out);
+        page += 1;
+        left -= 1;
+    }
+    to
+}
+
+// Prints a turn: its page changes, then its group.
+fn print_turn<'a>(
+    t: &[u16],
+    h: Head,
+    lits: &[u8],
+    kept: &'a [u8],
+    row: &'a [u8],
+    sums: &[i64],
+    x: Body,
+    out: &mut [u8],
+) -> Cursor
+    requires { ⌜ Ready h (now t) (x .turn) (x .pos) × Room h (now t) (reading (now lits) (now kept) (now row) (now sums) (x .flag) (x .prefix)) (placeGroup h (now t) (x .turn) (x .pos) .dues) (x .at) (now out) ⌝ }
+    ensures { λ r. ⌜ Printed h (now (t .entry)) (reading (now (lits .entry)) (now (kept .entry)) (now (row .entry)) (now (sums .entry)) (x .flag) (x .prefix)) (placeGroup h (now (t .entry)) (x .turn) (x .pos)) (now (out .entry)) (x .at) (now (out .exit)) r ⌝ }
+{
+    let d = x.turn;
+    let from = x.pos;
+    let prefix = x.prefix;
+    let view = View {
+        page: from.page,
+        line: 0,
+        from_kept: d.from_kept,
+        flag: x.flag,
+        prefix,
+    };
+    let r = layout::place_group(t, h, d, from);
+    let changes = Changes {
+        count: r.changes,
+        view,
+        at: x.at,
+    };
+    let a = print_changes(t, h, lits, kept, row, sums, changes, out);
+    let to = r.to;
+    let start = Start {
+        group: d.group,
+        at: tables::wide(r.at),
+    };
+    let group = print_of(view, to.page, start, a);
+    let at = print_due(t, h, lits, kept, row, sums, group, out);
+    Cursor { at, pos: to }
+}
+
+// Prints the body groups of a plan.
+fn print_turns<'a>(
+    t: &[u16],
+    h: Head,
+    lits: &[u8],
+    kept: &'a [u8],
+    row: &'a [u8],
+    sums: &[i64],
+    x: Task,
+    out: &mut [u8],
+) -> Cursor
+    requires { ⌜ Called h (now t) (x .plan) (x .pos) × Room h (now t) (reading (now lits) (now kept) (now row) (now sums) (x .flag) (x .prefix)) (placeAll h (now t) (turns h (now t) (x .plan)) (x .pos) .dues) (x .at) (now out) ⌝ }
+    ensures { λ r. ⌜ Printed h (now (t .entry)) (reading (now (lits .entry)) (now (kept .entry)) (now (row .entry)) (now (sums .entry)) (x .flag) (x .prefix)) (placeAll h (now (t .entry)) (turns h (now (t .entry)) (x .plan)) (x .pos)) (now (out .entry)) (x .at) (now (out .exit)) r ⌝ }
+{
+    let p = x.plan;
+    let prefix = x.prefix;
+    let all = p.feet + p.heads + 1;
+    let mut k = 0;
+    let from = x.pos;
+    let mut c = Cursor {
+        at: x.at,
+        pos: from,
+    };
+    while k < all {
+        let turn = plan::turn_at(t, h, p, k);
+        let pos = c.pos;
+        let body = Body {
+            turn,
+            pos,
+            flag: x.flag,
+            prefix,
+            at: c.at,
+        };
+        c = print_turn(t, h, lits, kept, row, sums, body, out);
+        k += 1;
+    }
+    c
+}
+
+// Prints RH and PH where the call opens the report.
+fn print_opening<'a>(
+    t: &[u16],
+    h: Head,
+    lits: &[u8],
+    kept: &'a [u8],
+    row: &'a [u8],
+    sums: &[i64],
+    x: Task,
+    out: &mut [u8],
+) -> Cursor
+    requires { ⌜ Small h (now t) × Room h (now t) (reading (now lits) (now kept) (now row) (now sums) (x .flag) (x .prefix)) (opened h (now t) (x .plan) (x .pos) .dues) (x .at) (now out) ⌝ }
+    ensures { λ r. ⌜ Printed h (now (t .entry)) (reading (now (lits .entry)) (now (kept .entry)) (now (row .entry)) (now (sums .entry)) (x .flag) (x .prefix)) (opened h (now (t .entry)) (x .plan) (x .pos)) (now (out .entry)) (x .at) (now (out .exit)) r ⌝ }
+{
+    let p = x.plan;
+    let prefix = x.prefix;
+    if p.opens {
+        let rh = layout::report_heading(t, h);
+        let ph = layout::first_page_heading(t, h);
+        let pos = layout::after_opening(t, h);
+        let view = View {
+            page: 1,
+            line: 0,
+            from_kept: false,
+            flag: x.flag,
+            prefix,
+        };
+        let pair = Pair {
+            one: rh,
+            two: ph,
+            next: 1,
+            view,
+            at: x.at,
+        };
+        let at = print_pair(t, h, lits, kept, row, sums, pair, out);
+        return Cursor { at, pos };
+    }
+    let pos = x.pos;
+    Cursor { at: x.at, pos }
+}
+
+// Prints PF and RF where the call closes the report.
+fn print_closing<'a>(
+    t: &[u16],
+    h: Head,
+    lits: &[u8],
+    kept: &'a [u8],
+    row: &'a [u8],
+    sums: &[i64],
+    x: Task,
+    out: &mut [u8],
+) -> Cursor
+    requires { ⌜ Small h (now t) × ((x .pos .page ≤ 1000100) × Room h (now t) (reading (now lits) (now kept) (now row) (now sums) (x .flag) (x .prefix)) (closed h (now t) (x .plan) (x .pos) .dues) (x .at) (now out)) ⌝ }
+    ensures { λ r. ⌜ Printed h (now (t .entry)) (reading (now (lits .entry)) (now (kept .entry)) (now (row .entry)) (now (sums .entry)) (x .flag) (x .prefix)) (closed h (now (t .entry)) (x .plan) (x .pos)) (now (out .entry)) (x .at) (now (out .exit)) r ⌝ }
+{
+    let p = x.plan;
+    let from = x.pos;
+    let prefix = x.prefix;
+    if p.closes {
+        let pf = layout::page_footing(t, h);
+        let rf = layout::report_footing(t, h);
+        let pos = layout::after_closing(t, h, from);
+        let view = View {
+            page: from.page,
+            line: 0,
+            from_kept: true,
+            flag: x.flag,
+            prefix,
+        };
+        let pair = Pair {
+            one: pf,
+            two: rf,
+            next: pos.page,
+            view,
+            at: x.at,
+        };
+        let at = print_pair(t, h, lits, kept, row, sums, pair, out);
+        return Cursor { at, pos };
+    }
+    Cursor {
+        at: x.at,
+        pos: from,
+    }
+}
+
+// The same groups, from where the printing stands.
+fn moved(x: Task, c: Cursor) -> Task
+    ensures { λ r. ⌜ r ≡ record { plan = x .plan; pos = c .pos; flag = x .flag; prefix = x .prefix; at = c .at } ⌝ }
+{
+    let plan = x.plan;
+    let prefix = x.prefix;
+    let pos = c.pos;
+    Task {
+        plan,
+        pos,
+        flag: x.flag,
+        prefix,
+        at: c.at,
+    }
+}
+
+// Prints a whole call.
+pub fn print_call<'a>(
+    t: &[u16],
+    h: Head,
+    lits: &[u8],
+    kept: &'a [u8],
+    row: &'a [u8],
+    sums: &[i64],
+    x: Task,
+    out: &mut [u8],
+) -> Cursor
+    requires { ⌜ Called h (now t) (x .plan) (x .pos) × Room h (now t) (reading (now lits) (now kept) (now row) (now sums) (x .flag) (x .prefix)) (layoutSpec h (now t) (x .plan) (x .pos) .dues) (x .at) (now out) ⌝ }
+    ensures { λ r. ⌜ Printed h (now (t .entry)) (reading (now (lits .entry)) (now (kept .entry)) (now (row .entry)) (now (sums .entry)) (x .flag) (x .prefix)) (layoutSpec h (now (t .entry)) (x .plan) (x .pos)) (now (out .entry)) (x .at) (now (out .exit)) r ⌝ }
+{
+    let a = print_opening(t, h, lits, kept, row, sums, x, out);
+    let body = moved(x, a);
+    let b = print_turns(t, h, lits, kept, row, sums, body, out);
+    let end = moved(x, b);
+    print_closing(t, h, lits, kept, row, sums, end, out)
+}
