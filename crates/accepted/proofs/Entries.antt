@@ -153,4 +153,4 @@ module _ (h : Head) (t : List ℕ) where
           }
 
       pub items-in : h .width ≤ 132 → ItemsIn h t lits
-      items-in w = record { sized = record { width = w; literals = omega arith }; each = item-in }
+      items-in w = record { sized = record { width = w; literals = literals-there }; each = item-in }

@@ -3,6 +3,7 @@
 use mathlib.Core.Path.{_≡_, refl, ap, _∙_}
 use Rattle.counts.specs.Below.{allBelow, sumBelow, firstBelow, listBelow}
 use Rattle.file.specs.Number.{num}
+use Rattle.file.specs.Rule.{ruled}
 use Rattle.file.specs.Sections.{ruleD1}
 use Rattle.tables.specs.Head.{headOf}
 use Rattle.tables.specs.Table.{table, literals}
@@ -28,12 +29,12 @@ use Rattle.marked.specs.Described.{sections, description}
 use Rattle.marked.specs.Marked.{cases, given, wanted}
 
 pub accepts : checked description ≡ Accepted
-unfolding description allBelow sumBelow firstBelow listBelow num ruleD1 table literals theGroup details sharedOut ruleD2 fieldOk ruleD3 differs controlOk ruleD4 numbersOk alone ruleD5 span stepOk firstOk bodyFits fits linesOk ruleD6 lineItemsOk groupItemsOk ruleD7 ruleD8 from8 from7 from6 from5 from4 from3 judged checked
+unfolding description allBelow sumBelow firstBelow listBelow num ruled ruleD1 table literals theGroup details sharedOut ruleD2 fieldOk ruleD3 differs controlOk ruleD4 numbersOk alone ruleD5 span stepOk firstOk bodyFits fits linesOk ruleD6 lineItemsOk groupItemsOk ruleD7 ruleD8 from8 from7 from6 from5 from4 from3 judged checked
 accepts = refl
 
 -- the table read from the bytes once, and not anew for each number of it
 sections-read : table description ≡ sections
-unfolding description listBelow num table
+unfolding description sumBelow listBelow num table
 sections-read = refl
 
 cases-wanted : cases (headOf description) sections ≡ wanted

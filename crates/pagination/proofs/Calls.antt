@@ -18,7 +18,7 @@ use Rattle.place.specs.Rules.{Running}
 use Rattle.place.proofs.Within.{fresh-running, line-le, saved-le}
 use Rattle.shape.specs.Shape.{frameOf}
 use Rattle.plan.specs.declared.Plan.{Plan}
-use Rattle.plan.specs.Plan.{detail, footings, headings, turns, lastPlan}
+use Rattle.plan.specs.Plan.{detail, footings, headings, turns, firstPlan, laterPlan, lastPlan}
 use Rattle.layout.specs.declared.Pos.{Pos}
 use Rattle.layout.specs.Layout.{dueOf, reportHeading, pageHeading, pageFooting, reportFooting, lineAfter, rhAt, phAt, pfAt, rfAt, opening, ownPage, closing, after, placeAll, nothing, layout}
 use Rattle.pagination.specs.All.{All}

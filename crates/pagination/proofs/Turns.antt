@@ -140,8 +140,8 @@ module _ (h : Head) (t : List ℕ) where
   change-reach kept p j u l r =
       let at = startFrom h t (h .ft) (pageFooting h t) in
       let to = startFrom h t (aboveHead h) (pageHeading h t) in
-      let pf : Due = record { group = pageFooting h t; kept = kept; page = p; at = at; turned = 0 } in
-      let ph : Due = record { group = pageHeading h t; kept = kept; page = p + 1; at = to; turned = 0 } in
+      let pf : Due = record { group = pageFooting h t; fromKept = kept; page = p; at = at; turned = 0 } in
+      let ph : Due = record { group = pageHeading h t; fromKept = kept; page = p + 1; at = to; turned = 0 } in
       by-test (present h t (pageFooting h t))
       (λ f. by-test (present h t (pageHeading h t))
       (λ e. rw (f, e) (record { behind = (reach-behind u pf p j l refl r, (inr (record { up = (omega arith, omega arith); footing = λ q. (refl, refl); heading = λ q. (inl refl, refl) }), tt)); reach = inl refl }))
@@ -179,7 +179,7 @@ module _ (h : Head) (t : List ℕ) where
   body-walk k kept p g at u w q y l e f =
       let b : isBody h t g ≡ true = rw (le-leb 2 (typeOf h t g) (y .0), le-leb (typeOf h t g) 4 (y .1)) refl in
       let us = pageChanges h t kept k p in
-      let v : Due = record { group = g; kept = kept; page = p + k; at = at; turned = k } in
+      let v : Due = record { group = g; fromKept = kept; page = p + k; at = at; turned = k } in
       let c = changes-reach k kept p 0 u (omega arith) (inl e) in
       rw q
       (record {
