@@ -11,13 +11,14 @@ use Rattle.splice.specs.Splice.{splice}
 use Rattle.tables.specs.declared.Head.{Head}
 use Rattle.plan.specs.declared.Plan.{Plan}
 use Rattle.compose.specs.Items.{Inputs}
+use Rattle.place.specs.Place.{lastPage}
 use Rattle.layout.specs.declared.Pos.{Pos}
 use Rattle.layout.specs.Layout.{Laid, layout}
 use Rattle.measure.specs.declared.Measured.{Measured}
 use Rattle.measure.specs.Measure.{measured}
 use Rattle.pages.specs.declared.Outcome.the-variants.{Done, PageLimit, NoRoom}
 use Rattle.pages.specs.Bytes.{dueBytes, byteCount}
-use Rattle.pages.specs.Outcome.{lastPage, outcome, written}
+use Rattle.pages.specs.Outcome.{outcome, written}
 use Rattle.pages.specs.Facts.{Printable, Room, Answered}
 use Rattle.pages.proofs.Bytes.{in-layout, length-dueBytes}
 

@@ -12,12 +12,10 @@ ghost use Rattle.pages.specs.Bytes.{dueBytes};
 ghost use Rattle.pages.specs.Facts.{Printable, Room, StartIn, Printed, Answered};
 use layout::Pos;
 use layout::Start;
+use place::LAST_PAGE;
 use plan::Plan;
 use plan::Turn;
 use tables::Head;
-
-// The last page that prints; refusal 8 is for a change from it.
-pub const LAST_PAGE: u32 = 999999;
 
 // What a call answers: the bytes written and the next place, or refusal 8 or 9.
 pub enum Outcome {
