@@ -16,8 +16,8 @@ use Rattle.pagination.specs.Rising.{Climb, Rises, spotsOf}
 use Rattle.pagination.specs.Parts.{InPart}
 use Rattle.pagination.specs.Claims.{rankAt}
 use Rattle.pagination.proofs.Climbs.{all-append, climb-append, rises}
-use Rattle.report.specs.declared.Report.{Report}
-use Rattle.report.specs.State.{freshAt}
+use Rattle.state.specs.declared.State.{State}
+use Rattle.state.specs.State.{freshAt}
 use Rattle.book.specs.Book.{Call, Book, freshBook, Entry, Event, enter, book, duesIn, spotsIn}
 use Rattle.book.specs.Demand.{Use, Done, did, run, printed, taken, events, due, Allowed, Demand3}
 use Rattle.book.proofs.Laws.{Laws}
@@ -61,13 +61,13 @@ module _ (d : List ℕ) (accepts : checked d ≡ Accepted) (A : facts.Accepted (
   unfolding printed events book duesIn spotsIn due
   holds-none b = record { refusals = tt; bytes = refl; parts = tt; turns = tt; top = rankB b; climb = omega arith }
 
-  holds : (us : List Use) (s : Report) (b : Book) → Tracks d accepts A L s b → Holds b (rankB b) (run d s us)
+  holds : (us : List Use) (s : State) (b : Book) → Tracks d accepts A L s b → Holds b (rankB b) (run d s us)
   unfolding run
   holds [] s b T = holds-none b
   holds (u ∷ us) s b T =
       let o = call-ok d accepts A L s b T (u .out) (u .call) in
       let x = did d s u in
-      holds-cons b x (run d (x .result .answer .report) us) o (holds us (x .result .answer .report) (enter h t b (u .call) (taken d (x .result)) .next) (o .next))
+      holds-cons b x (run d (x .result .answer .state) us) o (holds us (x .result .answer .state) (enter h t b (u .call) (taken d (x .result)) .next) (o .next))
 
   pub demand3 : (us : List Use) → Demand3 d (run d (freshAt 0) us)
   demand3 us =

@@ -24,17 +24,20 @@ use Rattle.compose.specs.Facts.{ItemsIn}
 use Rattle.layout.specs.declared.Pos.{Pos}
 use Rattle.layout.specs.Layout.{Due, Laid}
 use Rattle.pages.specs.Bytes.{dueBytes, byteCount}
-use Rattle.pages.specs.Outcome.{lastPage, pastLast, tooShort, outcome, written}
+use Rattle.place.specs.Place.{lastPage}
+use Rattle.pages.specs.Outcome.{pastLast, tooShort, outcome, written}
 use Rattle.pagination.specs.All.{All}
 use Rattle.pagination.specs.Rising.{rank, spotsOf}
 use Rattle.pagination.specs.Claims.{Sound, rankAt}
 use Rattle.pagination.proofs.Groups.{sound-none}
-use Rattle.report.specs.declared.Report.{Report}
-use Rattle.report.specs.declared.Verdict.{Verdict}
-use Rattle.report.specs.declared.Verdict.the-variants as verdict
-use Rattle.report.specs.Verdict.{number}
-use Rattle.report.specs.State.{freshAt, keeps, placeOf}
-use Rattle.report.specs.Result.{Result, refuse, Work, moved, settled}
+use Rattle.state.specs.declared.State.{State}
+use Rattle.refusals.specs.declared.Verdict.{Verdict}
+use Rattle.refusals.specs.declared.Verdict.the-variants as verdict
+use Rattle.refusals.specs.Verdict.{number}
+use Rattle.state.specs.State.{freshAt}
+use Rattle.state.specs.Rules.{stateOk}
+use Rattle.calls.specs.Result.{placeOf}
+use Rattle.calls.specs.Result.{Result, refuse, Work, moved, settled}
 use Rattle.book.specs.Book.{Call, initiate, generate, terminate, Book, freshPos, freshBook, dueFor, turned, Entry, entered, enter}
 use Rattle.book.specs.Demand.{taken}
 use Rattle.book.proofs.Laws.{Laws, RunFacts, IdleFacts}
@@ -53,13 +56,13 @@ module _ (d : List ℕ) where
   Fine n = (n ≡ 0) ⊎ (3 ≤ n) × (n ≤ 9)
 
   -- what one call must show, for the book's entry and whatever invariant is carried
-  pub record Ok (Inv : Report → Book → Type 0) (b : Book) (c : Call) (reading : Inputs) (r : Result) : Type 0 where
+  pub record Ok (Inv : State → Book → Type 0) (b : Book) (c : Call) (reading : Inputs) (r : Result) : Type 0 where
     pub fine : Fine (number (r .answer .verdict))
     pub bytes : take (r .answer .count) (r .out) ≡ dueBytes h t reading (enter h t b c (taken d r) .dues)
     pub sound : Sound h t (enter h t b c (taken d r) .report) (rankAt (b .report) (b .pos)) (rankAt (enter h t b c (taken d r) .next .report) (enter h t b c (taken d r) .next .pos)) (enter h t b c (taken d r) .dues)
-    pub next : Inv (r .answer .report) (enter h t b c (taken d r) .next)
+    pub next : Inv (r .answer .state) (enter h t b c (taken d r) .next)
 
-  module _ (Inv : Report → Book → Type 0) (b : Book) (c : Call) (reading : Inputs) (s : Report) (out : List ℕ) (inv : Inv s b) where
+  module _ (Inv : State → Book → Type 0) (b : Book) (c : Call) (reading : Inputs) (s : State) (out : List ℕ) (inv : Inv s b) where
     -- a refusal changes nothing
     pub refused-ok : (v : Verdict) → 3 ≤ number v → number v ≤ 9 → eqb (number v) 0 ≡ false → Ok Inv b c reading (refuse s out v)
     unfolding enter dueBytes
@@ -76,7 +79,7 @@ module _ (d : List ℕ) where
         (sound : Sound h t (b .report) (rankAt (b .report) (b .pos)) (rankAt (b .report) (w .laid .to)) (w .laid .dues))
         (stays : turned h t b c (w .laid) .report ≡ b .report) (place : turned h t b c (w .laid) .pos ≡ w .laid .to)
         (next : w .ok ≡ true → w .laid .to .page ≤ lastPage → Inv (moved w (w .laid .to)) (turned h t b c (w .laid))) where
-      done-ok : w .ok ≡ true → w .laid .to .page ≤ lastPage → Ok Inv b c reading (record { answer = record { verdict = verdict.Accepted; count = byteCount h t (w .laid .dues); report = moved w (w .laid .to) }; out = splice out 0 (dueBytes h t (w .inputs) (w .laid .dues)) })
+      done-ok : w .ok ≡ true → w .laid .to .page ≤ lastPage → Ok Inv b c reading (record { answer = record { verdict = verdict.Accepted; count = byteCount h t (w .laid .dues); state = moved w (w .laid .to) }; out = splice out 0 (dueBytes h t (w .inputs) (w .laid .dues)) })
       unfolding enter
       done-ok o l = record {
         fine = inl refl;

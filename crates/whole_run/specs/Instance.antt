@@ -2,7 +2,7 @@
 use mathlib.Core.Path.{_≡_}
 use Rattle.description.specs.declared.Checked.the-variants.{Accepted}
 use Rattle.description.specs.Check.{checked}
-use Rattle.report.specs.State.{freshAt}
+use Rattle.state.specs.State.{freshAt}
 use Rattle.book.specs.Demand.{run, printed, Demand3}
 use Rattle.whole_run.specs.Run.{description, calls, sheet}
 
