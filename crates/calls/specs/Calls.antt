@@ -15,10 +15,11 @@ use Rattle.plan.specs.Plan.{firstPlan, laterPlan, lastPlan}
 use Rattle.layout.specs.Layout.{layout}
 use Rattle.state.specs.declared.State.{State}
 use Rattle.state.specs.State.{idle, started, running, freshAt}
+use Rattle.state.specs.Rules.{stateOk}
 use Rattle.state.specs.Kept.{paddedRow, flagsSet}
 use Rattle.refusals.specs.declared.Tried.{Tried}
 use Rattle.refusals.specs.declared.Tried.the-variants.{Passed, Refused}
-use Rattle.refusals.specs.Stages.{startTried, begunTried, rowTried}
+use Rattle.refusals.specs.Stages.{startIn, begunIn, rowIn}
 use Rattle.calls.specs.declared.Asked.{Asked}
 use Rattle.calls.specs.declared.Asked.the-variants.{Initiate, Generate, Terminate}
 use Rattle.calls.specs.Result.{Result, refuse, accepted, placeOf, Work, work, settled}
@@ -74,10 +75,13 @@ lastWork h t lits s = lastWith h t lits s (totalsLast h t (s .sums))
 
 -- ---- the answer to what is asked
 -- refusals 2 to 6
+abbrev pub triedIn : Head → List ℕ → Bool → ℕ → Asked → List ℕ → Tried
+triedIn h t ok phase Initiate row = startIn ok phase
+triedIn h t ok phase (Generate d) row = rowIn h t ok phase d row
+triedIn h t ok phase Terminate row = begunIn ok phase
+
 abbrev pub tried : Head → List ℕ → State → Asked → List ℕ → Tried
-tried h t s Initiate row = startTried h t s
-tried h t s (Generate d) row = rowTried h t s d row
-tried h t s Terminate row = begunTried h t s
+tried h t s a row = triedIn h t (stateOk h t s) (s .phase) a row
 
 -- "INITIATE yields started, from any idle state."
 abbrev pub begun : List ℕ → Result

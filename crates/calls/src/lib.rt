@@ -4,6 +4,7 @@ ghost use mathlib.Core.Bool.{cond};
 ghost use Prim.Native.Nat.{_≤_, _<_};
 ghost use lib.ListN.{length};
 ghost use Rattle.lookup.specs.Find.{theDetail};
+ghost use Rattle.rows.specs.Facts.{FieldsIn};
 ghost use Rattle.compose.specs.Items.{inputs};
 ghost use Rattle.layout.specs.Layout.{layout as layoutSpec};
 ghost use Rattle.layout.specs.Facts.{Called};
@@ -11,10 +12,9 @@ ghost use Rattle.pages.specs.Facts.{Printable};
 ghost use Rattle.accepted.specs.Accepted.{Accepted};
 ghost use Rattle.state.specs.State.{started, running, keptSize};
 ghost use Rattle.state.specs.Kept.{paddedRow};
-ghost use Rattle.state.specs.Facts.{Testable};
 ghost use Rattle.refusals.specs.Facts.{RowIn};
 ghost use Rattle.calls.specs.Result.{placeOf, refusal as refusalSpec, accepted as acceptedSpec, at, answered, work, settled, Returns};
-ghost use Rattle.calls.specs.Calls.{cleared as clearedSpec, breaks, flagsAt, firstWork, laterWork, lastWork, tried as triedSpec, callOn};
+ghost use Rattle.calls.specs.Calls.{cleared as clearedSpec, breaks, flagsAt, firstWork, laterWork, lastWork, triedIn, callOn};
 ghost use Rattle.calls.specs.Facts.{Stands};
 use layout::Pos;
 use pages::Outcome;
@@ -253,35 +253,35 @@ pub fn later_row(
     ensures { λ r. ⌜ Returns (settled h (now (t .entry)) s (laterWork h (now (t .entry)) (now (lits .entry)) s d (now (rec .entry))) (now (out .entry))) r (now (out .exit)) ⌝ }
 {
     let group = lookup::find_detail(t, h, d);
+    let b = rows::break_level(t, h, &s.kept, rec);
     let old = s.sums;
-    let kept = s.kept;
-    let before = s.flags;
-    let b = rows::break_level(t, h, &kept, rec);
     let totals = amounts::totals_later(t, h, rec, d, b, old);
-    let set = flags_at(t, h, b, before);
-    let flag = set[d];
-    let flags = cleared(t, h, d, group, set);
-    let next = kept_at(h, b, rec, kept);
     let ok = totals.ok;
     if !ok {
         return refusal(s, Verdict::Sum);
     }
-    let shown = totals.shown;
-    let sums = totals.sums;
+    let before = s.flags;
+    let set = flags_at(t, h, b, before);
+    let flag = set[d];
+    let from = place_of(s);
     let outcome = pages::call(
         t,
         h,
         lits,
-        &kept,
+        &s.kept,
         rec,
-        &shown,
+        &totals.shown,
         flag,
         false,
         plan::later_plan(h, b, group),
         false,
-        place_of(s),
+        from,
         out,
     );
+    let sums = totals.sums;
+    let kept = s.kept;
+    let flags = cleared(t, h, d, group, set);
+    let next = kept_at(h, b, rec, kept);
     conclude(s, State::RUNNING, sums, flags, next, outcome)
 }
 
@@ -314,15 +314,15 @@ pub fn last_groups(t: &[u16], h: Head, lits: &[u8], s: State, out: &mut [u8]) ->
     )
 }
 
-// Refusals 2 to 6 of what is asked.
-pub fn tried(t: &[u16], h: Head, s: State, asked: Asked, rec: &[u8]) -> Tried
-    requires { ⌜ Testable h (now t) ⌝ }
-    ensures { λ r. ⌜ r ≡ triedSpec h (now (t .entry)) s asked (now (rec .entry)) ⌝ }
+// Refusals 2 to 6 of what is asked, by whether the state keeps its rules and by its phase.
+pub fn tried(t: &[u16], h: Head, ok: bool, phase: u8, asked: Asked, rec: &[u8]) -> Tried
+    requires { ⌜ FieldsIn h (now t) ⌝ }
+    ensures { λ r. ⌜ r ≡ triedIn h (now (t .entry)) ok phase asked (now (rec .entry)) ⌝ }
 {
     match asked {
-        Asked::Initiate => refusals::start_tried(t, h, s),
-        Asked::Generate(d) => refusals::row_tried(t, h, s, d, rec),
-        Asked::Terminate => refusals::begun_tried(t, h, s),
+        Asked::Initiate => refusals::start_tried(ok, phase),
+        Asked::Generate(d) => refusals::row_tried(t, h, ok, phase, d, rec),
+        Asked::Terminate => refusals::begun_tried(ok, phase),
     }
 }
 
@@ -339,7 +339,8 @@ pub fn call_on(
     requires { ⌜ Accepted h (now t) (now lits) ⌝ }
     ensures { λ r. ⌜ Returns (callOn h (now (t .entry)) (now (lits .entry)) s asked (now (rec .entry)) (now (out .entry))) r (now (out .exit)) ⌝ }
 {
-    let tests = tried(t, h, s, asked, rec);
+    let ok = state::state_ok(t, h, s);
+    let tests = tried(t, h, ok, s.phase, asked, rec);
     match tests {
         Tried::Refused(v) => refusal(s, v),
         Tried::Passed => match asked {

@@ -42,7 +42,6 @@ unguarded false v rest e f = f refl e
 
 module _ (h : Head) (t : List ℕ) (s : state.State) where
   pub begun : begunTried h t s ≡ Passed → Begun h t s
-  unfolding begunTried
   begun e =
       guarded (stateOk h t s) State _ e
       (λ k r. unguarded (eqb (s .phase) idle) Phase Passed r (λ p q. record { rules = k; busy = eqb-false (s .phase) idle p }))
@@ -52,7 +51,7 @@ module _ (h : Head) (t : List ℕ) (s : state.State) where
 
   module _ (d : ℕ) (row : List ℕ) where
     pub row-begun : rowTried h t s d row ≡ Passed → Begun h t s × RowIn h t d row
-    unfolding rowTried recordTried
+    unfolding recordTried
     row-begun e =
         both (begunTried h t s) _ e
         (λ x y. both (detailTried h t d) _ y

@@ -20,12 +20,18 @@ then Passed second = second
 then (Refused v) second = Refused v
 
 -- "2 | state breaks its rules below"; "3 | INITIATE when not idle"
-unfoldable pub startTried : Head → List ℕ → state.State → Tried
-startTried h t s = cond (stateOk h t s) (cond (eqb (s .phase) idle) Passed (Refused Phase)) (Refused State)
+abbrev pub startIn : Bool → ℕ → Tried
+startIn ok phase = cond ok (cond (eqb phase idle) Passed (Refused Phase)) (Refused State)
+
+abbrev pub startTried : Head → List ℕ → state.State → Tried
+startTried h t s = startIn (stateOk h t s) (s .phase)
 
 -- "2 | state breaks its rules below"; "3 | .. GENERATE or TERMINATE when idle"
-unfoldable pub begunTried : Head → List ℕ → state.State → Tried
-begunTried h t s = cond (stateOk h t s) (cond (eqb (s .phase) idle) (Refused Phase) Passed) (Refused State)
+abbrev pub begunIn : Bool → ℕ → Tried
+begunIn ok phase = cond ok (cond (eqb phase idle) (Refused Phase) Passed) (Refused State)
+
+abbrev pub begunTried : Head → List ℕ → state.State → Tried
+begunTried h t s = begunIn (stateOk h t s) (s .phase)
 
 -- "4 | d names no detail group"
 abbrev pub detailTried : Head → List ℕ → ℕ → Tried
@@ -39,5 +45,8 @@ recordTried h t row =
     (Refused Length)
 
 -- 2 and 3, then 4, then 5 and 6
-unfoldable pub rowTried : Head → List ℕ → state.State → ℕ → List ℕ → Tried
-rowTried h t s d row = then (begunTried h t s) (then (detailTried h t d) (recordTried h t row))
+abbrev pub rowIn : Head → List ℕ → Bool → ℕ → ℕ → List ℕ → Tried
+rowIn h t ok phase d row = then (begunIn ok phase) (then (detailTried h t d) (recordTried h t row))
+
+abbrev pub rowTried : Head → List ℕ → state.State → ℕ → List ℕ → Tried
+rowTried h t s d row = rowIn h t (stateOk h t s) (s .phase) d row

@@ -1,8 +1,8 @@
 // The verdict on a call, and the tests before its work: refusals 2 to 6, in stages.
 ghost use mathlib.Core.Path.{_≡_};
-ghost use Rattle.state.specs.Facts.{Testable};
+ghost use Rattle.rows.specs.Facts.{FieldsIn};
 ghost use Rattle.refusals.specs.Verdict.{number, extra};
-ghost use Rattle.refusals.specs.Stages.{then as thenSpec, startTried, begunTried, detailTried, recordTried, rowTried};
+ghost use Rattle.refusals.specs.Stages.{then as thenSpec, startIn, begunIn, detailTried, recordTried, rowIn};
 use state::State;
 use tables::Head;
 
@@ -74,15 +74,14 @@ pub fn then(first: Tried, second: Tried) -> Tried
     }
 }
 
-// Refusals 2 and 3 of INITIATE.
-pub fn start_tried(t: &[u16], h: Head, s: State) -> Tried
-    requires { ⌜ Testable h (now t) ⌝ }
-    ensures { λ r. ⌜ r ≡ startTried h (now (t .entry)) s ⌝ }
+// Refusals 2 and 3 of INITIATE, by whether the state keeps its rules and by its phase.
+pub fn start_tried(ok: bool, phase: u8) -> Tried
+    ensures { λ r. ⌜ r ≡ startIn ok phase ⌝ }
 {
-    if !state::state_ok(t, h, s) {
+    if !ok {
         return Tried::Refused(Verdict::State);
     }
-    if s.phase == State::IDLE {
+    if phase == State::IDLE {
         Tried::Passed
     } else {
         Tried::Refused(Verdict::Phase)
@@ -90,14 +89,13 @@ pub fn start_tried(t: &[u16], h: Head, s: State) -> Tried
 }
 
 // Refusals 2 and 3 of GENERATE and TERMINATE.
-pub fn begun_tried(t: &[u16], h: Head, s: State) -> Tried
-    requires { ⌜ Testable h (now t) ⌝ }
-    ensures { λ r. ⌜ r ≡ begunTried h (now (t .entry)) s ⌝ }
+pub fn begun_tried(ok: bool, phase: u8) -> Tried
+    ensures { λ r. ⌜ r ≡ begunIn ok phase ⌝ }
 {
-    if !state::state_ok(t, h, s) {
+    if !ok {
         return Tried::Refused(Verdict::State);
     }
-    if s.phase == State::IDLE {
+    if phase == State::IDLE {
         Tried::Refused(Verdict::Phase)
     } else {
         Tried::Passed
@@ -117,7 +115,7 @@ pub fn detail_tried(t: &[u16], h: Head, d: usize) -> Tried
 
 // Refusals 5 and 6.
 pub fn record_tried(t: &[u16], h: Head, rec: &[u8]) -> Tried
-    requires { ⌜ Testable h (now t) ⌝ }
+    requires { ⌜ FieldsIn h (now t) ⌝ }
     ensures { λ r. ⌜ r ≡ recordTried h (now (t .entry)) (now (rec .entry)) ⌝ }
 {
     if rec.len() != tables::wide(h.reclen) {
@@ -132,12 +130,12 @@ pub fn record_tried(t: &[u16], h: Head, rec: &[u8]) -> Tried
 }
 
 // Refusals 2 to 6 of GENERATE.
-pub fn row_tried(t: &[u16], h: Head, s: State, d: usize, rec: &[u8]) -> Tried
-    requires { ⌜ Testable h (now t) ⌝ }
-    ensures { λ r. ⌜ r ≡ rowTried h (now (t .entry)) s d (now (rec .entry)) ⌝ }
+pub fn row_tried(t: &[u16], h: Head, ok: bool, phase: u8, d: usize, rec: &[u8]) -> Tried
+    requires { ⌜ FieldsIn h (now t) ⌝ }
+    ensures { λ r. ⌜ r ≡ rowIn h (now (t .entry)) ok phase d (now (rec .entry)) ⌝ }
 {
     then(
-        begun_tried(t, h, s),
+        begun_tried(ok, phase),
         then(detail_tried(t, h, d), record_tried(t, h, rec)),
     )
 }

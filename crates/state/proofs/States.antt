@@ -112,7 +112,7 @@ module _ (h : Head) (line : ℕ) where
 module _ (h : Head) (t : List ℕ) (s : State) where
   -- idle: the ranges
 
-  ranges : rangesOk h s ≡ true → Ranged h s
+  ranges : rangesOk h (s .page) (s .line) (s .saved) (s .sums) ≡ true → Ranged h s
   unfolding rangesOk
   ranges e =
       let a = leb 1 (s .page) in
@@ -126,16 +126,16 @@ module _ (h : Head) (t : List ℕ) (s : State) where
         inRange = p .3;
       }
 
-  in-ranges : Ranged h s → rangesOk h s ≡ true
+  in-ranges : Ranged h s → rangesOk h (s .page) (s .line) (s .saved) (s .sums) ≡ true
   unfolding rangesOk
   in-ranges r =
       rw (le-leb 1 (s .page) (r .first), le-leb (s .page) lastPage (r .last), le-leb (s .line) (h .page) (r .onPage), le-leb (s .saved) lastSaved (r .small))
       (r .inRange)
 
   -- the rules of a phase
-  in-phase : (k : ℕ) → s .phase ≡ k → stateOk h t s ≡ cond (eqb k idle) (rangesOk h s) (cond (eqb k started) (freshOk s) (eqb k running && runningOk h t s))
+  in-phase : (k : ℕ) → s .phase ≡ k → stateOk h t s ≡ cond (eqb k idle) (rangesOk h (s .page) (s .line) (s .saved) (s .sums)) (cond (eqb k started) (freshOk s) (eqb k running && runningOk h t s))
   unfolding stateOk
-  in-phase k p = ap (λ (x : ℕ). cond (eqb x idle) (rangesOk h s) (cond (eqb x started) (freshOk s) (eqb x running && runningOk h t s))) p
+  in-phase k p = ap (λ (x : ℕ). cond (eqb x idle) (rangesOk h (s .page) (s .line) (s .saved) (s .sums)) (cond (eqb x started) (freshOk s) (eqb x running && runningOk h t s))) p
 
   pub idle-facts : s .phase ≡ idle → stateOk h t s ≡ true → Ranged h s
   idle-facts p e = ranges (sym (in-phase idle p) ∙ e)
@@ -163,9 +163,9 @@ module _ (h : Head) (t : List ℕ) (s : State) where
   pub running-facts : s .phase ≡ running → stateOk h t s ≡ true → RunningState h t s
   unfolding runningOk beyondOk keptOk
   running-facts i e =
-      let a = rangesOk h s in
+      let a = rangesOk h (s .page) (s .line) (s .saved) (s .sums) in
       let b = lineOk h (s .line) (s .seen) in
-      let p = and4 (a && b) (savedOk h (s .line) (s .seen) (s .saved)) (beyondOk h t s) (keptOk h t s) (sym (in-phase running i) ∙ e) in
+      let p = and4 (a && b) (savedOk h (s .line) (s .seen) (s .saved)) (beyondOk h t (s .sums) (s .flags)) (keptOk h t (s .kept)) (sym (in-phase running i) ∙ e) in
       let r = ranges (and-l a b (p .0)) in
       let l = and-r a b (p .0) in
       let z = zeroSums (h .counters) (s .sums) in

@@ -20,8 +20,8 @@ abbrev pub lastSaved : ℕ
 lastSaved = 999
 
 -- "page 1 to 999,999, line 0 to P, .. saved integer 0 to 999, up to 32 sums each within ±(10^18 − 1)"
-unfoldable pub rangesOk : Head → State → Bool
-rangesOk h s = isPage (s .page) && leb (s .line) (h .page) && leb (s .saved) lastSaved && sumsOk (s .sums)
+unfoldable pub rangesOk : Head → ℕ → ℕ → ℕ → List ℤ → Bool
+rangesOk h page line saved sums = isPage page && leb line (h .page) && leb saved lastSaved && sumsOk sums
 
 -- the test passes at every index from k on, below n
 unfoldable pub allFrom : ℕ → ℕ → (ℕ → Bool) → Bool
@@ -63,21 +63,23 @@ abbrev pub savedOk : Head → ℕ → Bool → ℕ → Bool
 savedOk h line seen saved = eqb saved 0 || (leb (h .fd) saved && leb saved (h .ft) && seen && eqb line (h .ft))
 
 -- "sums and flags beyond the description's are 0"
-unfoldable pub beyondOk : Head → List ℕ → State → Bool
-beyondOk h t s = zeroSums (h .counters) (s .sums) && zeroFlags (details h t) (s .flags)
+unfoldable pub beyondOk : Head → List ℕ → List ℤ → List Bool → Bool
+beyondOk h t sums flags = zeroSums (h .counters) sums && zeroFlags (details h t) flags
 
 -- "kept bytes a well-formed record, then zeros"
-unfoldable pub keptOk : Head → List ℕ → State → Bool
-keptOk h t s = formed h t (s .kept) && zeroBytes (h .reclen) (s .kept)
+unfoldable pub keptOk : Head → List ℕ → List ℕ → Bool
+keptOk h t kept = formed h t kept && zeroBytes (h .reclen) kept
 
 -- "Running: ..", the ranges with it
 unfoldable pub runningOk : Head → List ℕ → State → Bool
 runningOk h t s =
-    rangesOk h s && lineOk h (s .line) (s .seen) && savedOk h (s .line) (s .seen) (s .saved) && beyondOk h t s && keptOk h t s
+    rangesOk h (s .page) (s .line) (s .saved) (s .sums) && lineOk h (s .line) (s .seen) && savedOk h (s .line) (s .seen) (s .saved)
+    && beyondOk h t (s .sums) (s .flags)
+    && keptOk h t (s .kept)
 
 -- the rules by the phase; "Idle asks only the ranges." An unlisted phase breaks them.
 unfoldable pub stateOk : Head → List ℕ → State → Bool
 stateOk h t s =
-    cond (eqb (s .phase) idle) (rangesOk h s)
+    cond (eqb (s .phase) idle) (rangesOk h (s .page) (s .line) (s .saved) (s .sums))
     (cond (eqb (s .phase) started) (freshOk s)
     (eqb (s .phase) running && runningOk h t s))

@@ -129,28 +129,25 @@ fn zero_bytes(from: usize, kept: &[u8]) -> bool
 }
 
 // The ranges, which are all that an idle state is asked.
-fn ranges_ok(h: Head, s: State) -> bool
-    ensures { λ r. ⌜ r ≡ rangesOk h s ⌝ }
+fn ranges_ok(h: Head, page: u32, line: u16, saved: u16, sums: &[i64]) -> bool
+    requires { ⌜ length (now sums) ≡ sumCount ⌝ }
+    ensures { λ r. ⌜ r ≡ rangesOk h page line saved (now (sums .entry)) ⌝ }
 {
-    let sums = s.sums;
-    let within = sums_ok(&sums);
-    place::is_page(s.page) & (s.line <= h.page) & (s.saved <= LAST_SAVED) & within
+    place::is_page(page) & (line <= h.page) & (saved <= LAST_SAVED) & sums_ok(sums)
 }
 
 // As a fresh report, whatever the phase.
 fn fresh_ok(s: State) -> bool
     ensures { λ r. ⌜ r ≡ freshOk s ⌝ }
 {
-    let sums = s.sums;
     let flags = s.flags;
-    let kept = s.kept;
     (s.page == 1)
         & (s.line == 0)
         & !s.seen
         & (s.saved == 0)
-        & zero_sums(0, &sums)
+        & zero_sums(0, &s.sums)
         & zero_flags(0, flags)
-        & zero_bytes(0, &kept)
+        & zero_bytes(0, &s.kept)
 }
 
 // The line of a running state: in the body region where a body group has printed, else above it.
@@ -172,22 +169,20 @@ fn saved_ok(h: Head, line: u16, seen: bool, saved: u16) -> bool
 }
 
 // No sum beyond the counters, no flag beyond the details.
-fn beyond_ok(t: &[u16], h: Head, s: State) -> bool
-    ensures { λ r. ⌜ r ≡ beyondOk h (now (t .entry)) s ⌝ }
+fn beyond_ok(t: &[u16], h: Head, sums: &[i64], flags: [bool; FLAG_COUNT]) -> bool
+    requires { ⌜ length (now sums) ≡ sumCount ⌝ }
+    ensures { λ r. ⌜ r ≡ beyondOk h (now (t .entry)) (now (sums .entry)) flags ⌝ }
 {
-    let sums = s.sums;
-    let flags = s.flags;
-    zero_sums(tables::wide(h.counters), &sums) & zero_flags(lookup::details_of(t, h), flags)
+    zero_sums(tables::wide(h.counters), sums) & zero_flags(lookup::details_of(t, h), flags)
 }
 
 // A well-formed record, then zeros.
-fn kept_ok(t: &[u16], h: Head, s: State) -> bool
-    requires { ⌜ Testable h (now t) ⌝ }
-    ensures { λ r. ⌜ r ≡ keptOk h (now (t .entry)) s ⌝ }
+fn kept_ok(t: &[u16], h: Head, kept: &[u8]) -> bool
+    requires { ⌜ Testable h (now t) × (length (now kept) ≡ keptSize) ⌝ }
+    ensures { λ r. ⌜ r ≡ keptOk h (now (t .entry)) (now (kept .entry)) ⌝ }
 {
-    let kept = s.kept;
-    let first = rows::first_malformed(t, h, &kept);
-    (tables::wide(h.fields) <= first) & zero_bytes(tables::wide(h.reclen), &kept)
+    let first = rows::first_malformed(t, h, kept);
+    (tables::wide(h.fields) <= first) & zero_bytes(tables::wide(h.reclen), kept)
 }
 
 // The rules of a running state.
@@ -195,11 +190,12 @@ fn running_ok(t: &[u16], h: Head, s: State) -> bool
     requires { ⌜ Testable h (now t) ⌝ }
     ensures { λ r. ⌜ r ≡ runningOk h (now (t .entry)) s ⌝ }
 {
-    ranges_ok(h, s)
+    let flags = s.flags;
+    ranges_ok(h, s.page, s.line, s.saved, &s.sums)
         & line_ok(h, s.line, s.seen)
         & saved_ok(h, s.line, s.seen, s.saved)
-        & beyond_ok(t, h, s)
-        & kept_ok(t, h, s)
+        & beyond_ok(t, h, &s.sums, flags)
+        & kept_ok(t, h, &s.kept)
 }
 
 // Whether a state keeps its rules. Only the test of its phase is worked out.
@@ -209,7 +205,7 @@ pub fn state_ok(t: &[u16], h: Head, s: State) -> bool
 {
     let phase = s.phase;
     if phase == State::IDLE {
-        return ranges_ok(h, s);
+        return ranges_ok(h, s.page, s.line, s.saved, &s.sums);
     }
     if phase == State::STARTED {
         return fresh_ok(s);

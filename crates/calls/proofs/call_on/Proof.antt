@@ -9,18 +9,23 @@ use Rattle.refusals.specs.declared.Tried.the-variants.{Passed}
 use Rattle.refusals.specs.Facts.{Begun}
 use Rattle.refusals.proofs.Stages.{running-else}
 use Rattle.calls.specs.Result.{accepted}
-use Rattle.calls.specs.Calls.{tried}
+use Rattle.calls.specs.Calls.{triedIn, tried}
 use Rattle.calls.specs.Facts.{Stands}
 use Rattle.calls.proofs.Works.{asked-row, asked-end, call-refused, call-begun, call-first, call-later, call-ended, call-last}
 use Rattle.calls.proofs.call_on.Statement.{statement}
 use Rattle.calls.proofs.call_on.Tie as tie
 
--- the tests have passed
-abbrev start : tie.After-enum-told → tie.Start
-start c = c .before .before .before .before .before .before .before
+-- what the tests find
+abbrev start : tie.After-tried → tie.Start
+start c = c .before .before .before .before .before .before
 
-passed : (c : tie.After-enum-told) → tried (start c .args .h) (start c .args .t .now) (start c .args .s) (start c .args .asked) (start c .args .rec .now) ≡ Passed
-passed c = sym (c .before .before .tried .ensures) ∙ c .enum-told .given .1
+tests-are : (c : tie.After-tried) → c .tried .result ≡ tried (start c .args .h) (start c .args .t .now) (start c .args .s) (start c .args .asked) (start c .args .rec .now)
+tests-are c =
+    let a = start c .args in
+    c .tried .ensures ∙ ap (λ (k : Bool). triedIn (a .h) (a .t .now) k (a .s .phase) (a .asked) (a .rec .now)) (c .before .state-ok .ensures)
+
+passed : (c : tie.After-enum-told) → tried (start (c .before .before) .args .h) (start (c .before .before) .args .t .now) (start (c .before .before) .args .s) (start (c .before .before) .args .asked) (start (c .before .before) .args .rec .now) ≡ Passed
+passed c = sym (tests-are (c .before .before)) ∙ c .enum-told .given .1
 
 stands : (c : tie.Start) → Begun (c .args .h) (c .args .t .now) (c .args .s) → Stands (c .args .h) (c .args .t .now) (c .args .lits .now) (c .args .s)
 stands c b =
@@ -36,22 +41,22 @@ first-row-requires : tie.Need-first-row-requires
 first-row-requires c κs =
     let e = c .before .before .before .before .before .before in
     let b = asked-row _ _ _ _ _ _ (passed e) (c .before .before .before .before .asked .given .1) in
-    (stands (start e) (b .0), (b .1, c .before .if1 .taken))
+    (stands (start (e .before .before)) (b .0), (b .1, c .before .if1 .taken))
 
 later-row-requires : tie.Need-later-row-requires
 later-row-requires c κs =
     let e = c .before .before .before .before .before .before in
     let b = asked-row _ _ _ _ _ _ (passed e) (c .before .before .before .before .asked .given .1) in
-    (stands (start e) (b .0), (b .1, running-else _ _ _ (b .0) (c .before .if1 .left)))
+    (stands (start (e .before .before)) (b .0), (b .1, running-else _ _ _ (b .0) (c .before .if1 .left)))
 
 last-groups-requires : tie.Need-last-groups-requires
 last-groups-requires c κs =
     let e = c .before .before .before .before .before in
     let b = asked-end _ _ _ _ _ (passed e) (c .before .before .before .enum-told3 .given .1) in
-    (stands (start e) b, running-else _ _ _ b (c .before .if2 .left))
+    (stands (start (e .before .before)) b, running-else _ _ _ b (c .before .if2 .left))
 
 returns : tie.Need-returns
-returns c = call-refused _ _ _ _ _ _ _ _ _ _ (sym (c .before .before .before .before .tried .ensures) ∙ c .before .before .tests .given .1) (c .refusal .ensures) refl
+returns c = call-refused _ _ _ _ _ _ _ _ _ _ (sym (tests-are (c .before .before .before .before)) ∙ c .before .before .tests .given .1) (c .refusal .ensures) refl
 
 returns-2 : tie.Need-returns-2
 returns-2 c =
@@ -74,6 +79,7 @@ pub call-on-spec : {M : Type 1} → statement M
 call-on-spec =
     tie.close
     (tie.spec
+    (λ c κs. search needs)
     (λ c κs. search needs)
     (λ c. search needs)
     (λ c κs. search needs)

@@ -7,8 +7,7 @@ use Rattle.state.proofs.running_ok.Tie as tie
 
 returns : tie.Need-returns
 unfolding runningOk
-returns c = rw (c .kept-ok .ensures, c .before .beyond-ok .ensures, c .before .before .saved-ok .ensures, c .before .before .before .line-ok .ensures, c .before .before .before .before .ranges-ok .ensures)
+returns c = rw (c .kept-ok .ensures, c .before .before .before .before .beyond-ok .ensures, c .before .before .before .before .before .before .before .before .saved-ok .ensures, c .before .before .before .before .before .before .before .before .before .line-ok .ensures, c .before .before .before .before .before .before .before .before .before .before .ranges-ok .ensures)
 
 pub running-ok-spec : {M : Type 1} → statement M
-running-ok-spec =
-    tie.close (tie.spec (λ c κs. search needs) (λ c κs. search needs) (λ c κs. search needs) (λ c κs. search needs) (λ c κs. search needs) returns)
+running-ok-spec = tie.close (tie.spec (λ c κs. search needs) (λ c κs. search needs) (λ c κs. search needs) (λ c κs. search needs) (λ c κs. search needs) returns)
