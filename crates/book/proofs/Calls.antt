@@ -30,21 +30,24 @@ use Rattle.compose.specs.Facts.{ItemsIn}
 use Rattle.plan.specs.Plan.{firstPlan, laterPlan, lastPlan}
 use Rattle.layout.specs.declared.Pos.{Pos}
 use Rattle.layout.specs.Layout.{layout}
-use Rattle.pages.specs.Outcome.{lastPage}
+use Rattle.place.specs.Place.{lastPage}
 use Rattle.pages.proofs.Bytes.{in-layout}
 use Rattle.pagination.specs.Rising.{rank}
 use Rattle.pagination.specs.Claims.{rankAt, Placed, Closed}
 use Rattle.pagination.proofs.Groups.{sound-none}
 use Rattle.pagination.proofs.Calls.{DetailOk, first-placed, later-placed, last-placed, detail-is}
-use Rattle.state.specs.Rules.{idle, started, running}
+use Rattle.state.specs.State.{idle, started, running}
 use Rattle.state.specs.Kept.{flagsSet}
-use Rattle.report.specs.declared.Report.{Report}
-use Rattle.report.specs.declared.Verdict.{Verdict}
-use Rattle.report.specs.declared.Verdict.the-variants as verdict
-use Rattle.report.specs.Verdict.{number}
-use Rattle.report.specs.State.{freshAt, keeps, placeOf}
-use Rattle.report.specs.Result.{refuse, Work, moved, settled}
-use Rattle.report.specs.Calls.{cleared, firstWork, flagsAt, breaks, laterWork, rowWork, lastWork, startTried, rowTried, endTried, begun, ended, generatedOn, terminatedOn, initiatedOn}
+use Rattle.state.specs.declared.State.{State}
+use Rattle.refusals.specs.declared.Verdict.{Verdict}
+use Rattle.refusals.specs.declared.Verdict.the-variants as verdict
+use Rattle.refusals.specs.Verdict.{number}
+use Rattle.state.specs.State.{freshAt}
+use Rattle.state.specs.Rules.{stateOk}
+use Rattle.calls.specs.Result.{placeOf}
+use Rattle.calls.specs.Result.{refuse, Work, moved, settled}
+use Rattle.refusals.specs.Stages.{startTried, begunTried, recordTried, rowTried}
+use Rattle.calls.specs.Calls.{cleared, firstWork, flagsAt, breaks, laterWork, rowWork, lastWork, begun, ended, callOn}
 use Rattle.report.specs.Calls as calls
 use Rattle.book.specs.Book.{Call, initiate, generate, terminate, Book, freshPos, freshBook, dueFor, turned, enter}
 use Rattle.book.specs.Sheet.{sheetOf}
@@ -68,8 +71,8 @@ module _ (d : List ℕ) (accepts : checked d ≡ Accepted) (A : facts.Accepted (
   t = table d
 
   -- what is carried from call to call
-  pub record Tracks (s : Report) (b : Book) : Type 0 where
-    pub kept : keeps h t s ≡ true
+  pub record Tracks (s : State) (b : Book) : Type 0 where
+    pub kept : stateOk h t s ≡ true
     pub sumsLong : length (s .sums) ≡ 32
     pub place : b .pos ≡ placeOf s
     pub begins : s .phase ≡ 1 → (s ≡ freshAt 1) × (b .row ≡ none)
@@ -78,7 +81,7 @@ module _ (d : List ℕ) (accepts : checked d ≡ Accepted) (A : facts.Accepted (
   begun-tracks : (b : Book) → b .pos ≡ freshPos → b .row ≡ none → Tracks (freshAt 1) b
   begun-tracks b p r = record { kept = L .started-ok; sumsLong = L .zero-sums .long; place = p; begins = λ e. (refl, r); goes = λ e. absurd (omega arith) }
 
-  idle-tracks : (s : Report) (b : Book) → s .phase ≡ 0 → IdleFacts h s → length (s .sums) ≡ 32 → b .pos ≡ placeOf s → Tracks s b
+  idle-tracks : (s : State) (b : Book) → s .phase ≡ 0 → IdleFacts h s → length (s .sums) ≡ 32 → b .pos ≡ placeOf s → Tracks s b
   idle-tracks s b e f n p = record { kept = L .idle-ok s e f; sumsLong = n; place = p; begins = λ q. absurd (omega arith); goes = λ q. absurd (omega arith) }
 
   -- the fresh state
@@ -88,7 +91,7 @@ module _ (d : List ℕ) (accepts : checked d ≡ Accepted) (A : facts.Accepted (
   pub fresh-tracks : Tracks (freshAt 0) freshBook
   fresh-tracks = idle-tracks (freshAt 0) freshBook refl fresh-idle (L .zero-sums .long) refl
 
-  module _ (s : Report) (b : Book) (T : Tracks s b) (out : List ℕ) where
+  module _ (s : State) (b : Book) (T : Tracks s b) (out : List ℕ) where
     -- ---- INITIATE
     idle-climb : s .phase ≡ 0 → rankAt (b .report) (b .pos) ≤ rank (suc (b .report)) 1 0
     idle-climb e = let f = L .idle-facts s e (T .kept) in rw (T .place) (omega (arith, f .page2, f .line, A .pageFits .page999))
@@ -105,7 +108,7 @@ module _ (d : List ℕ) (accepts : checked d ≡ Accepted) (A : facts.Accepted (
     }
 
     pub initiate-ok : Ok d Tracks s b initiate (reads d s initiate) (answer d s initiate out)
-    unfolding calls.initiate initiatedOn startTried
+    unfolding calls.call callOn startTried
     initiate-ok =
         rw (accepts, T .kept)
         (by-test (eqb (s .phase) idle)
@@ -138,7 +141,7 @@ module _ (d : List ℕ) (accepts : checked d ≡ Accepted) (A : facts.Accepted (
         laid1 = refl
 
         placed1 : Placed h t (b .report) (placeOf s) (w1 .laid)
-        placed1 = rw laid1 (first-placed h t (b .report) (A .pageFits) (firstPlan h (theDetail h t i)) (placeOf s) detail-ok (ap (λ (x : Report). x .page) fresh) (ap (λ (x : Report). x .line) fresh))
+        placed1 = rw laid1 (first-placed h t (b .report) (A .pageFits) (firstPlan h (theDetail h t i)) (placeOf s) detail-ok (ap (λ (x : State). x .page) fresh) (ap (λ (x : State). x .line) fresh))
 
         same1 : w1 .laid ≡ dueFor h t (b .row) call (b .pos)
         same1 = rw (T .begins e .1, T .place) laid1
@@ -148,7 +151,7 @@ module _ (d : List ℕ) (accepts : checked d ≡ Accepted) (A : facts.Accepted (
         run1 l =
             let z = L .first-sums row i (s .sums) (rw fresh (L .zero-sums)) in
             record {
-              page1 = omega (arith, placed1 .pages, ap (λ (x : Report). x .page) fresh);
+              page1 = omega (arith, placed1 .pages, ap (λ (x : State). x .page) fresh);
               page2 = l;
               spot = placed1 .running;
               sumsIn = z .range;
@@ -185,7 +188,7 @@ module _ (d : List ℕ) (accepts : checked d ≡ Accepted) (A : facts.Accepted (
 
         pub first-ok : Ok d Tracks s b call (w1 .inputs) (settled h t s w1 out)
         first-ok = settled-ok d Tracks b call (w1 .inputs) s out T w1 same1 refl items1 (rw laid1 (in-layout h t true (firstPlan h (theDetail h t i)) false (placeOf s))) (rw (T .place) (placed1 .sound)) refl refl
-            (λ q. absurd (omega arith)) (rw (T .place) (omega (arith, ap (λ (x : Report). x .page) fresh))) _ (rw (T .place) (placed1 .paged)) (inr refl) next1
+            (λ q. absurd (omega arith)) (rw (T .place) (omega (arith, ap (λ (x : State). x .page) fresh))) _ (rw (T .place) (placed1 .paged)) (inr refl) next1
 
       -- a later row
       module _ (e : s .phase ≡ 2) where
@@ -271,7 +274,7 @@ module _ (d : List ℕ) (accepts : checked d ≡ Accepted) (A : facts.Accepted (
     no-ok c reading v l m e = refused-ok d Tracks b c reading s out T v l m e
 
     pub generate-ok : (i : ℕ) (row : List ℕ) → Ok d Tracks s b (generate i row) (reads d s (generate i row)) (answer d s (generate i row) out)
-    unfolding calls.generate generatedOn rowTried
+    unfolding calls.call callOn rowTried begunTried recordTried
     generate-ok i row =
         rw (accepts, T .kept)
         (by-test (eqb (s .phase) idle)
@@ -348,7 +351,7 @@ module _ (d : List ℕ) (accepts : checked d ≡ Accepted) (A : facts.Accepted (
           (λ o l. idle-tracks (moved w3 (w3 .laid .to)) _ phase3 (idle3 l) long3 refl)
 
     pub terminate-ok : Ok d Tracks s b terminate (reads d s terminate) (answer d s terminate out)
-    unfolding calls.terminate terminatedOn endTried
+    unfolding calls.call callOn begunTried
     terminate-ok =
         rw (accepts, T .kept)
         (by-test (eqb (s .phase) idle)

@@ -16,11 +16,14 @@ use Rattle.rows.specs.Breaks.{SameControls}
 use Rattle.sums.specs.Sums.{sumsOk}
 use Rattle.amounts.specs.Totals.{totalsFirst, totalsLater, totalsLast}
 use Rattle.amounts.proofs.Good.{GoodSums}
+use Rattle.place.specs.Place.{lastPage}
 use Rattle.place.specs.Rules.{Running}
 use Rattle.shape.specs.Shape.{frameOf}
 use Rattle.state.specs.Kept.{paddedRow, flagsSet}
-use Rattle.report.specs.declared.Report.{Report}
-use Rattle.report.specs.State.{freshAt, keeps, placeOf}
+use Rattle.state.specs.declared.State.{State}
+use Rattle.state.specs.State.{freshAt}
+use Rattle.state.specs.Rules.{stateOk}
+use Rattle.calls.specs.Result.{placeOf}
 
 -- sums, flags and kept bytes beyond the description's
 abbrev pub SumsEnd : Head → List ℤ → Type 0
@@ -33,9 +36,9 @@ abbrev pub KeptEnd : Head → List ℕ → Type 0
 KeptEnd h kept = (i : ℕ) → h .reclen ≤ i → i < 256 → getD kept i 0 ≡ 0
 
 -- a running state, as facts
-pub record RunFacts (h : Head) (t : List ℕ) (s : Report) : Type 0 where
+pub record RunFacts (h : Head) (t : List ℕ) (s : State) : Type 0 where
   pub page1 : 1 ≤ s .page
-  pub page2 : s .page ≤ 999999
+  pub page2 : s .page ≤ lastPage
   pub spot : Running (frameOf h t) (placeOf s .spot)
   pub sumsIn : sumsOk (s .sums) ≡ true
   pub sumsEnd : SumsEnd h (s .sums)
@@ -44,9 +47,9 @@ pub record RunFacts (h : Head) (t : List ℕ) (s : Report) : Type 0 where
   pub keptEnd : KeptEnd h (s .kept)
 
 -- an idle state
-pub record IdleFacts (h : Head) (s : Report) : Type 0 where
+pub record IdleFacts (h : Head) (s : State) : Type 0 where
   pub page1 : 1 ≤ s .page
-  pub page2 : s .page ≤ 999999
+  pub page2 : s .page ≤ lastPage
   pub line : s .line ≤ h .page
   pub saved : s .saved ≤ 999
   pub sumsIn : sumsOk (s .sums) ≡ true
@@ -60,12 +63,12 @@ good-sums n l r e f = record {
 }
 
 pub record Laws (h : Head) (t : List ℕ) : Type 0 where
-  pub run-facts : (s : Report) → s .phase ≡ 2 → keeps h t s ≡ true → RunFacts h t s
-  pub run-ok : (s : Report) → s .phase ≡ 2 → RunFacts h t s → keeps h t s ≡ true
-  pub idle-facts : (s : Report) → s .phase ≡ 0 → keeps h t s ≡ true → IdleFacts h s
-  pub idle-ok : (s : Report) → s .phase ≡ 0 → IdleFacts h s → keeps h t s ≡ true
-  pub started-ok : keeps h t (freshAt 1) ≡ true
-  pub phase-listed : (s : Report) → keeps h t s ≡ true → s .phase ≤ 2
+  pub run-facts : (s : State) → s .phase ≡ 2 → stateOk h t s ≡ true → RunFacts h t s
+  pub run-ok : (s : State) → s .phase ≡ 2 → RunFacts h t s → stateOk h t s ≡ true
+  pub idle-facts : (s : State) → s .phase ≡ 0 → stateOk h t s ≡ true → IdleFacts h s
+  pub idle-ok : (s : State) → s .phase ≡ 0 → IdleFacts h s → stateOk h t s ≡ true
+  pub started-ok : stateOk h t (freshAt 1) ≡ true
+  pub phase-listed : (s : State) → stateOk h t s ≡ true → s .phase ≤ 2
   pub first-sums : (row : List ℕ) (d : ℕ) (sums : List ℤ) → GoodSums (h .counters) sums → GoodSums (h .counters) (totalsFirst h t row d sums .sums)
   pub later-sums : (row : List ℕ) (d b : ℕ) (sums : List ℤ) → GoodSums (h .counters) sums → GoodSums (h .counters) (totalsLater h t row d b sums .sums)
   pub last-sums : (sums : List ℤ) → GoodSums (h .counters) sums → GoodSums (h .counters) (totalsLast h t sums .sums)

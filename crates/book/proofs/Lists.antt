@@ -24,9 +24,9 @@ use Rattle.pagination.specs.Turns.{noGroup, Behind, bodies, UpToTwo}
 use Rattle.pagination.specs.Claims.{rankAt, lastOf}
 use Rattle.pagination.proofs.Climbs.{all-append, climb-append, rises}
 use Rattle.pagination.proofs.Turns.{chain-append, bodies-append}
-use Rattle.pages.specs.Outcome.{lastPage}
-use Rattle.report.specs.declared.Report.{Report}
-use Rattle.report.specs.State.{freshAt}
+use Rattle.place.specs.Place.{lastPage}
+use Rattle.state.specs.declared.State.{State}
+use Rattle.state.specs.State.{freshAt}
 use Rattle.book.specs.Book.{Call, Book, freshBook, enter, book, duesIn, duesOf, spotsIn}
 use Rattle.book.specs.Demand.{Use, Done, did, run, printed, taken, events, due, Allowed, Demand3}
 use Rattle.book.proofs.Laws.{Laws}
@@ -42,11 +42,11 @@ module _ (d : List ℕ) (accepts : checked d ≡ Accepted) (A : facts.Accepted (
   t = table d
 
   -- u and w stand before the groups due of report r: of the report that goes on, or of one to come
-  record Before (s : Report) (b : Book) (r : ℕ) (u w : Due) : Type 0 where
+  record Before (s : State) (b : Book) (r : ℕ) (u w : Due) : Type 0 where
     going : b .report ≡ r → Led s b u w
     coming : b .report < r → (u .page ≡ 1) × (w .page ≡ 1)
 
-  record Holds (s : Report) (b : Book) (lo : ℕ) (xs : List (Done d)) : Type 0 where
+  record Holds (s : State) (b : Book) (lo : ℕ) (xs : List (Done d)) : Type 0 where
     refusals : All (Allowed d) xs
     bytes : printed d xs ≡ due d (book h t b (events d xs)) xs
     parts : All (InPart h t) (duesIn h t (book h t b (events d xs)))
@@ -69,7 +69,7 @@ module _ (d : List ℕ) (accepts : checked d ≡ Accepted) (A : facts.Accepted (
       (chain-append (Behind h t) u xs ys (a .0) (b .0), rw (bodies-append h t xs ys) (chain-append UpToTwo w (bodies h t xs) (bodies h t ys) (a .1) (b .1)))
 
   -- the groups due of report r, a call's before those of the calls behind it
-  module _ (s : Report) (b : Book) (s' : Report) (b' : Book) (us : List Due) (m : Moves h t s b s' b' us) (r : ℕ) (u w : Due) (f : Before s b r u w) where
+  module _ (s : State) (b : Book) (s' : State) (b' : Book) (us : List Due) (m : Moves h t s b s' b' us) (r : ℕ) (u w : Due) (f : Before s b r u w) where
     before-own : b .report ≡ r → Before s' b' r (lastOf u us) (lastOf w (bodies h t us))
     before-own e = record { going = λ q. m .led u w (f .going e) (q ∙ sym e); coming = λ q. absurd (omega (arith, m .later)) }
 
@@ -87,8 +87,8 @@ module _ (d : List ℕ) (accepts : checked d ≡ Accepted) (A : facts.Accepted (
         (λ q. let e = sym i ∙ eqb-true n r q in follow-append u w us ys (m .follow u w (f .going e)) (rest (lastOf u us) (lastOf w (bodies h t us)) (before-own e)))
         (λ q. rest u w (before-other (λ e. eqb-false n r q (i ∙ e))))
 
-  holds-cons : (s : Report) (b : Book) (x : Done d) (xs : List (Done d)) → Ok d (Tracks d accepts A L) s b (x .call) (x .reading) (x .result) →
-      Holds (x .result .answer .report) (enter h t b (x .call) (taken d (x .result)) .next) (rankB (enter h t b (x .call) (taken d (x .result)) .next)) xs → Holds s b (rankB b) (x ∷ xs)
+  holds-cons : (s : State) (b : Book) (x : Done d) (xs : List (Done d)) → Ok d (Tracks d accepts A L) s b (x .call) (x .reading) (x .result) →
+      Holds (x .result .answer .state) (enter h t b (x .call) (taken d (x .result)) .next) (rankB (enter h t b (x .call) (taken d (x .result)) .next)) xs → Holds s b (rankB b) (x ∷ xs)
   unfolding printed events book duesIn duesOf spotsIn due
   holds-cons s b x xs o m =
       let e = enter h t b (x .call) (taken d (x .result)) in
@@ -98,22 +98,22 @@ module _ (d : List ℕ) (accepts : checked d ≡ Accepted) (A : facts.Accepted (
         bytes = ap₂ _++_ (o .bytes) (m .bytes);
         parts = all-append (InPart h t) (e .dues) (duesIn h t rest) (o .sound .parts) (m .parts);
         pages = all-append (λ u. (1 ≤ u .page) × (u .page ≤ lastPage)) (e .dues) (duesIn h t rest) (o .pages) (m .pages);
-        follow = λ r u w f. follow-cons s b (x .result .answer .report) (e .next) (e .dues) (o .moves) r u w f (e .report) (entry-report b (x .call) (taken d (x .result))) (duesOf h t r rest) (m .follow r);
+        follow = λ r u w f. follow-cons s b (x .result .answer .state) (e .next) (e .dues) (o .moves) r u w f (e .report) (entry-report b (x .call) (taken d (x .result))) (duesOf h t r rest) (m .follow r);
         top = m .top;
         climb = climb-append (spotsOf h t (e .report) (e .dues)) (spotsIn h t rest) (rankB b) (rankB (e .next)) (m .top) (o .sound .climb) (m .climb);
       }
 
-  holds-none : (s : Report) (b : Book) → Holds s b (rankB b) []
+  holds-none : (s : State) (b : Book) → Holds s b (rankB b) []
   unfolding printed events book duesIn duesOf bodies spotsIn due
   holds-none s b = record { refusals = tt; bytes = refl; parts = tt; pages = tt; follow = λ r u w f. (tt, tt); top = rankB b; climb = omega arith }
 
-  holds : (us : List Use) (s : Report) (b : Book) → Tracks d accepts A L s b → Holds s b (rankB b) (run d s us)
+  holds : (us : List Use) (s : State) (b : Book) → Tracks d accepts A L s b → Holds s b (rankB b) (run d s us)
   unfolding run
   holds [] s b T = holds-none s b
   holds (u ∷ us) s b T =
       let o = call-ok d accepts A L s b T (u .out) (u .call) in
       let x = did d s u in
-      holds-cons s b x (run d (x .result .answer .report) us) o (holds us (x .result .answer .report) (enter h t b (u .call) (taken d (x .result)) .next) (o .next))
+      holds-cons s b x (run d (x .result .answer .state) us) o (holds us (x .result .answer .state) (enter h t b (u .call) (taken d (x .result)) .next) (o .next))
 
   from-start : (r : ℕ) → Before (freshAt 0) freshBook r (noGroup h) (noGroup h)
   from-start r = record { going = λ e. inl refl; coming = λ l. (refl, refl) }

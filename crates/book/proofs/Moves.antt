@@ -13,18 +13,18 @@ use Rattle.pagination.specs.Turns.{Chain, Behind, bodies, UpToTwo}
 use Rattle.pagination.proofs.Climbs.{all-map}
 use Rattle.pagination.specs.Claims.{lastOf, Walk}
 use Rattle.pagination.proofs.Turns.{pages-in}
-use Rattle.report.specs.declared.Report.{Report}
+use Rattle.state.specs.declared.State.{State}
 use Rattle.book.specs.Book.{Book}
 
 -- between the calls of a report: its last group due u and its last body group w stand on the book's page; the report is over where the state is idle
-abbrev pub Led : Report → Book → Due → Due → Type 0
+abbrev pub Led : State → Book → Due → Due → Type 0
 Led s b u w = (s .phase ≡ 0) ⊎ (u .page ≡ b .pos .page) × (w .page ≡ b .pos .page)
 
-led-page : (s : Report) (b : Book) (u w : Due) → (s .phase ≡ 0 → ⊥) → Led s b u w → (u .page ≡ b .pos .page) × (w .page ≡ b .pos .page)
+led-page : (s : State) (b : Book) (u w : Due) → (s .phase ≡ 0 → ⊥) → Led s b u w → (u .page ≡ b .pos .page) × (w .page ≡ b .pos .page)
 led-page s b u w n (inl e) = absurd (n e)
 led-page s b u w n (inr k) = k
 
-led-next : (s : Report) (b : Book) (u w : Due) {q r : ℕ} → u .page ≡ b .pos .page → w .page ≡ r → (s .phase ≡ 0) ⊎ (r ≡ q) → b .pos .page ≡ q → Led s b u w
+led-next : (s : State) (b : Book) (u w : Due) {q r : ℕ} → u .page ≡ b .pos .page → w .page ≡ r → (s .phase ≡ 0) ⊎ (r ≡ q) → b .pos .page ≡ q → Led s b u w
 led-next s b u w e f (inl o) g = inl o
 led-next s b u w e f (inr o) g = inr (e, f ∙ o ∙ sym g)
 
@@ -33,14 +33,14 @@ module _ (h : Head) (t : List ℕ) where
   abbrev pub Follow : Due → Due → List Due → Type 0
   Follow u w us = Chain (Behind h t) u us × Chain UpToTwo w (bodies h t us)
 
-  pub record Moves (s : Report) (b : Book) (s' : Report) (b' : Book) (us : List Due) : Type 0 where
+  pub record Moves (s : State) (b : Book) (s' : State) (b' : Book) (us : List Due) : Type 0 where
     pub later : b .report ≤ b' .report
     pub fresh : b .report < b' .report → b' .pos .page ≡ 1
     pub follow : (u w : Due) → Led s b u w → Follow u w us
     pub led : (u w : Due) → Led s b u w → b' .report ≡ b .report → Led s' b' (lastOf u us) (lastOf w (bodies h t us))
 
   -- a call that makes nothing due
-  pub moves-none : (s : Report) (b : Book) (s' : Report) (b' : Book) → b .report ≤ b' .report → (b .report < b' .report → b' .pos .page ≡ 1)
+  pub moves-none : (s : State) (b : Book) (s' : State) (b' : Book) → b .report ≤ b' .report → (b .report < b' .report → b' .pos .page ≡ 1)
       → ((u w : Due) → Led s b u w → b' .report ≡ b .report → Led s' b' u w) → Moves s b s' b' []
   unfolding lastOf bodies
   moves-none s b s' b' l f k = record { later = l; fresh = f; follow = λ u w m. (tt, tt); led = k }
@@ -54,7 +54,7 @@ module _ (h : Head) (t : List ℕ) where
         all-map (λ v. (p ≤ v .page) × (v .page ≤ q)) (λ v. (1 ≤ v .page) × (v .page ≤ q)) (λ v y. (omega (arith, y .0), y .1)) us
         (pages-in h t us u q (x .behind) (omega (arith, x .last)) .1)
 
-    pub walk-moves : (s : Report) (b : Book) (s' : Report) (b' : Book) → (s .phase ≡ 0 → ⊥) → b .pos .page ≡ p → b' .report ≡ b .report → b' .pos .page ≡ q → (s' .phase ≡ 0) ⊎ (r ≡ q) →
+    pub walk-moves : (s : State) (b : Book) (s' : State) (b' : Book) → (s .phase ≡ 0 → ⊥) → b .pos .page ≡ p → b' .report ≡ b .report → b' .pos .page ≡ q → (s' .phase ≡ 0) ⊎ (r ≡ q) →
         Moves s b s' b' us
     walk-moves s b s' b' n e same f o = record {
       later = omega arith;

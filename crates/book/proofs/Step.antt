@@ -22,16 +22,17 @@ use Rattle.layout.specs.declared.Pos.{Pos}
 use Rattle.layout.specs.Layout.{Due}
 use Rattle.pages.specs.Bytes.{dueBytes, byteCount}
 use Rattle.pages.proofs.Bytes.{GroupsIn, printed-part}
-use Rattle.pages.specs.Outcome.{lastPage, pastLast, tooShort, outcome, written}
+use Rattle.place.specs.Place.{lastPage}
+use Rattle.pages.specs.Outcome.{pastLast, tooShort, outcome, written}
 use Rattle.pagination.specs.All.{All}
 use Rattle.pagination.specs.Claims.{Sound, rankAt, Walk}
 use Rattle.pagination.proofs.Climbs.{all-map}
 use Rattle.pagination.proofs.Groups.{sound-none}
-use Rattle.report.specs.declared.Report.{Report}
-use Rattle.report.specs.declared.Verdict.{Verdict}
-use Rattle.report.specs.declared.Verdict.the-variants as verdict
-use Rattle.report.specs.Verdict.{number}
-use Rattle.report.specs.Result.{Result, refuse, Work, moved, settled}
+use Rattle.state.specs.declared.State.{State}
+use Rattle.refusals.specs.declared.Verdict.{Verdict}
+use Rattle.refusals.specs.declared.Verdict.the-variants as verdict
+use Rattle.refusals.specs.Verdict.{number}
+use Rattle.calls.specs.Result.{Result, refuse, Work, moved, settled}
 use Rattle.book.specs.Book.{Call, Book, dueFor, turned, enter}
 use Rattle.book.specs.Sheet.{sheetOf}
 use Rattle.book.specs.Demand.{taken}
@@ -51,15 +52,15 @@ module _ (d : List ℕ) where
   Fine n = (n ≡ 0) ⊎ (3 ≤ n) × (n ≤ 9)
 
   -- what one call must show, for the book's entry and whatever invariant is carried
-  pub record Ok (Inv : Report → Book → Type 0) (s : Report) (b : Book) (c : Call) (reading : Inputs) (r : Result) : Type 0 where
+  pub record Ok (Inv : State → Book → Type 0) (s : State) (b : Book) (c : Call) (reading : Inputs) (r : Result) : Type 0 where
     pub fine : Fine (number (r .answer .verdict))
     pub bytes : take (r .answer .count) (r .out) ≡ sheetOf h t reading (enter h t b c (taken d r) .dues)
     pub sound : Sound h t (enter h t b c (taken d r) .report) (rankAt (b .report) (b .pos)) (rankAt (enter h t b c (taken d r) .next .report) (enter h t b c (taken d r) .next .pos)) (enter h t b c (taken d r) .dues)
     pub pages : All (λ u. (1 ≤ u .page) × (u .page ≤ lastPage)) (enter h t b c (taken d r) .dues)
-    pub moves : Moves h t s b (r .answer .report) (enter h t b c (taken d r) .next) (enter h t b c (taken d r) .dues)
-    pub next : Inv (r .answer .report) (enter h t b c (taken d r) .next)
+    pub moves : Moves h t s b (r .answer .state) (enter h t b c (taken d r) .next) (enter h t b c (taken d r) .dues)
+    pub next : Inv (r .answer .state) (enter h t b c (taken d r) .next)
 
-  module _ (Inv : Report → Book → Type 0) (b : Book) (c : Call) (reading : Inputs) (s : Report) (out : List ℕ) (inv : Inv s b) where
+  module _ (Inv : State → Book → Type 0) (b : Book) (c : Call) (reading : Inputs) (s : State) (out : List ℕ) (inv : Inv s b) where
     -- a refusal changes nothing
     pub refused-ok : (v : Verdict) → 3 ≤ number v → number v ≤ 9 → eqb (number v) 0 ≡ false → Ok Inv s b c reading (refuse s out v)
     unfolding enter sheetOf
@@ -80,7 +81,7 @@ module _ (d : List ℕ) where
         (busy : s .phase ≡ 0 → ⊥) (low : 1 ≤ b .pos .page)
         (q : ℕ) (walk : (u v : Due) → u .page ≡ b .pos .page → v .page ≡ b .pos .page → Walk h t u v (w .laid .dues) (w .laid .to .page) q) (over : (w .phase ≡ 0) ⊎ (q ≡ w .laid .to .page))
         (next : w .ok ≡ true → w .laid .to .page ≤ lastPage → Inv (moved w (w .laid .to)) (turned h t b c (w .laid))) where
-      done-ok : w .ok ≡ true → w .laid .to .page ≤ lastPage → Ok Inv s b c reading (record { answer = record { verdict = verdict.Accepted; count = byteCount h t (w .laid .dues); report = moved w (w .laid .to) }; out = splice out 0 (dueBytes h t (w .inputs) (w .laid .dues)) })
+      done-ok : w .ok ≡ true → w .laid .to .page ≤ lastPage → Ok Inv s b c reading (record { answer = record { verdict = verdict.Accepted; count = byteCount h t (w .laid .dues); state = moved w (w .laid .to) }; out = splice out 0 (dueBytes h t (w .inputs) (w .laid .dues)) })
       unfolding enter
       done-ok o l = record {
         fine = inl refl;

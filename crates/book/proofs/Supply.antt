@@ -15,19 +15,19 @@ use Rattle.shape.specs.Shape.{frameOf}
 use Rattle.state.specs.Facts.{PageIn}
 use Rattle.state.proofs.States.{idle-facts, idle-ok, started-ok, running-facts, running-ok, by-phase}
 use Rattle.state.proofs.Kept.{padded-zero, padded-formed, padded-controls, flagsSet-beyond}
-use Rattle.report.specs.declared.Report.{Report}
-use Rattle.report.specs.State.{keeps}
-use Rattle.report.proofs.Ready.{zeros-good}
+use Rattle.state.specs.declared.State.{State}
+use Rattle.state.specs.Rules.{stateOk}
+use Rattle.calls.proofs.Ready.{zeros-good}
 use Rattle.book.proofs.Laws.{RunFacts, IdleFacts, Laws}
 
 module _ (h : Head) (t lits : List ℕ) (A : Accepted h t lits) where
   page-in : PageIn h
   page-in = record { body = omega (arith, A .pageFits .fdLd, A .pageFits .ldFt); foot = A .pageFits .ftPage; short = A .pageFits .page999 }
 
-  run-facts : (s : Report) → s .phase ≡ 2 → keeps h t s ≡ true → RunFacts h t s
+  run-facts : (s : State) → s .phase ≡ 2 → stateOk h t s ≡ true → RunFacts h t s
   unfolding frameOf
   run-facts s e k =
-      let f = running-facts h t (s .page) (s .line) (s .seen) (s .saved) (s .sums) (s .flags) (s .kept) (rw e at k) in
+      let f = running-facts h t s e k in
       record {
         page1 = f .first;
         page2 = f .last;
@@ -39,11 +39,10 @@ module _ (h : Head) (t lits : List ℕ) (A : Accepted h t lits) where
         keptEnd = f .beyondRow;
       }
 
-  run-ok : (s : Report) → s .phase ≡ 2 → RunFacts h t s → keeps h t s ≡ true
+  run-ok : (s : State) → s .phase ≡ 2 → RunFacts h t s → stateOk h t s ≡ true
   unfolding frameOf
   run-ok s e f =
-      rw e
-      (running-ok h t (s .page) (s .line) (s .seen) (s .saved) (s .sums) (s .flags) (s .kept) page-in
+      running-ok h t s page-in e
       (record {
         first = f .page1;
         last = f .page2;
@@ -55,16 +54,16 @@ module _ (h : Head) (t lits : List ℕ) (A : Accepted h t lits) where
         beyondFlags = f .flagsEnd;
         formed = f .keptFormed;
         beyondRow = f .keptEnd;
-      }))
+      })
 
-  idle-facts' : (s : Report) → s .phase ≡ 0 → keeps h t s ≡ true → IdleFacts h s
+  idle-facts' : (s : State) → s .phase ≡ 0 → stateOk h t s ≡ true → IdleFacts h s
   idle-facts' s e k =
-      let f = idle-facts h t (s .page) (s .line) (s .seen) (s .saved) (s .sums) (s .flags) (s .kept) (rw e at k) in
+      let f = idle-facts h t s e k in
       record { page1 = f .first; page2 = f .last; line = f .onPage; saved = f .small; sumsIn = f .inRange }
 
-  idle-ok' : (s : Report) → s .phase ≡ 0 → IdleFacts h s → keeps h t s ≡ true
+  idle-ok' : (s : State) → s .phase ≡ 0 → IdleFacts h s → stateOk h t s ≡ true
   idle-ok' s e f =
-      rw e (idle-ok h t (s .page) (s .line) (s .seen) (s .saved) (s .sums) (s .flags) (s .kept) (record { first = f .page1; last = f .page2; onPage = f .line; small = f .saved; inRange = f .sumsIn }))
+      idle-ok h t s e (record { first = f .page1; last = f .page2; onPage = f .line; small = f .saved; inRange = f .sumsIn })
 
   pub laws : Laws h t
   laws = record {
@@ -72,10 +71,8 @@ module _ (h : Head) (t lits : List ℕ) (A : Accepted h t lits) where
     run-ok = run-ok;
     idle-facts = idle-facts';
     idle-ok = idle-ok';
-    started-ok =
-        started-ok h t 1 0 false 0 (replicate 32 (pos 0)) (replicate 8 false) (replicate 256 0)
-        (record { firstPage = refl; noLine = refl; noBody = refl; noSaved = refl; noSums = refl; noFlags = refl; noRow = refl });
-    phase-listed = λ s k. by-phase h t (s .page) (s .line) (s .seen) (s .saved) (s .sums) (s .flags) (s .kept) (s .phase) k (λ e. omega arith) (λ e. omega arith) (λ e. omega arith);
+    started-ok = started-ok h t;
+    phase-listed = λ s k. by-phase h t s k (λ e. omega arith) (λ e. omega arith) (λ e. omega arith);
     first-sums = λ row d sums g. first-good h t (A .countersIn .few) sums g row d .sums;
     later-sums = λ row d b sums g. later-good h t (A .countersIn .few) sums g row d b .sums;
     last-sums = λ sums g. last-good h t (A .countersIn .few) sums g .sums;

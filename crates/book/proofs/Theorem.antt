@@ -8,7 +8,7 @@ use Rattle.tables.specs.Table.{table, literals}
 use Rattle.description.specs.declared.Checked.the-variants.{Accepted}
 use Rattle.description.specs.Check.{checked}
 use Rattle.accepted.proofs.Accept.{accepted}
-use Rattle.report.specs.State.{freshAt}
+use Rattle.state.specs.State.{freshAt}
 use Rattle.book.specs.Demand.{Use, run, Demand3}
 use Rattle.book.proofs.Supply.{laws}
 use Rattle.book.proofs.Lists as lists

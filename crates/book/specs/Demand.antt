@@ -9,15 +9,15 @@ use Rattle.tables.specs.declared.Head.{Head}
 use Rattle.tables.specs.Head.{headOf}
 use Rattle.tables.specs.Table.{table, literals}
 use Rattle.compose.specs.Items.{Inputs, inputs}
-use Rattle.pages.specs.Outcome.{lastPage}
+use Rattle.place.specs.Place.{lastPage}
 use Rattle.pagination.specs.All.{All}
 use Rattle.pagination.specs.Rising.{Rises}
 use Rattle.pagination.specs.Parts.{InPart}
 use Rattle.pagination.specs.Turns.{Chain, noGroup, Behind, bodies, UpToTwo}
-use Rattle.report.specs.declared.Report.{Report}
-use Rattle.report.specs.Verdict.{number, accepted}
-use Rattle.report.specs.Result.{Result}
-use Rattle.report.specs.Calls.{rowWork, lastWork}
+use Rattle.state.specs.declared.State.{State}
+use Rattle.refusals.specs.Verdict.{number, accepted}
+use Rattle.calls.specs.Result.{Result}
+use Rattle.calls.specs.Calls.{rowWork, lastWork}
 use Rattle.report.specs.Calls as calls
 use Rattle.book.specs.Book.{Call, initiate, generate, terminate, freshBook, Entry, Event, book, duesIn, duesOf, spotsIn}
 use Rattle.book.specs.Sheet.{sheetOf}
@@ -35,13 +35,13 @@ module _ (d : List ℕ) where
   t = table d
 
   -- what the call answers: the definitions that the promises of INITIATE, GENERATE and TERMINATE cite
-  abbrev pub answer : Report → Call → List ℕ → Result
+  abbrev pub answer : State → Call → List ℕ → Result
   answer s initiate out = calls.initiate d s out
   answer s (generate i row) out = calls.generate d s i row out
   answer s terminate out = calls.terminate d s out
 
   -- what the call's items read, by demand 2's definition
-  abbrev pub reads : Report → Call → Inputs
+  abbrev pub reads : State → Call → Inputs
   reads s initiate = inputs [] [] [] [] false
   reads s (generate i row) = rowWork h t (literals d) s i row .inputs
   reads s terminate = lastWork h t (literals d) s .inputs
@@ -51,13 +51,13 @@ module _ (d : List ℕ) where
     pub reading : Inputs
     pub result : Result
 
-  abbrev pub did : Report → Use → Done
+  abbrev pub did : State → Use → Done
   did s u = record { call = u .call; reading = reads s (u .call); result = answer s (u .call) (u .out) }
 
   -- the first call gets the state s, each later one the state that the call before gave back
-  unfoldable pub run : Report → List Use → List Done
+  unfoldable pub run : State → List Use → List Done
   run s [] = []
-  run s (u ∷ us) = did s u ∷ run (did s u .result .answer .report) us
+  run s (u ∷ us) = did s u ∷ run (did s u .result .answer .state) us
 
   -- the first count bytes of the outputs, joined in order
   unfoldable pub printed : List Done → List ℕ

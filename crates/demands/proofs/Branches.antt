@@ -18,14 +18,17 @@ use Rattle.description.specs.declared.Checked.{Checked}
 use Rattle.description.specs.declared.Checked.the-variants.{Accepted, Broken}
 use Rattle.description.specs.Check.{checked}
 use Rattle.rows.specs.Fields.{firstMalformed}
-use Rattle.state.specs.Rules.{idle, started}
-use Rattle.report.specs.declared.Report.{Report}
-use Rattle.report.specs.declared.Verdict.{Verdict}
-use Rattle.report.specs.declared.Verdict.the-variants as verdict
-use Rattle.report.specs.Verdict.{number}
-use Rattle.report.specs.State.{freshAt, keeps}
-use Rattle.report.specs.Result.{Result, refuse, settled}
-use Rattle.report.specs.Calls.{rowWork, lastWork, startTried, rowTried, endTried, generatedOn, terminatedOn, initiatedOn, ifAccepted}
+use Rattle.state.specs.State.{idle, started}
+use Rattle.state.specs.declared.State.{State}
+use Rattle.refusals.specs.declared.Verdict.{Verdict}
+use Rattle.refusals.specs.declared.Verdict.the-variants as verdict
+use Rattle.refusals.specs.Verdict.{number}
+use Rattle.state.specs.State.{freshAt}
+use Rattle.state.specs.Rules.{stateOk}
+use Rattle.calls.specs.Result.{Result, refuse, settled}
+use Rattle.refusals.specs.Stages.{startTried, begunTried, recordTried, rowTried}
+use Rattle.calls.specs.Calls.{rowWork, lastWork, callOn}
+use Rattle.report.specs.Calls.{ifAccepted}
 use Rattle.report.specs.Calls as calls
 use Rattle.book.specs.Book.{Call, initiate, generate, terminate}
 use Rattle.book.specs.Demand.{answer}
@@ -35,7 +38,7 @@ by-check : (F : Checked → Type 0) (k : Checked) → (k ≡ Accepted → F Acce
 by-check F Accepted a b = a refl
 by-check F (Broken n) a b = b n
 
-module _ (d : List ℕ) (s : Report) (out : List ℕ) where
+module _ (d : List ℕ) (s : State) (out : List ℕ) where
   abbrev h : Head
   h = headOf d
 
@@ -54,7 +57,7 @@ module _ (d : List ℕ) (s : Report) (out : List ℕ) where
     unfolding calls.initiate initiatedOn startTried
     initiates =
         by-check (λ k. P initiate (ifAccepted k s out (initiatedOn h t s out))) (checked d)
-        (λ a. by-test (keeps h t s)
+        (λ a. by-test (stateOk h t s)
         (λ k. by-test (eqb (s .phase) idle)
         (λ e. rw (k, e) (B .silent initiate started refl refl))
         (λ e. rw (k, e) (B .no initiate verdict.Phase (omega arith) (omega arith))))
@@ -65,7 +68,7 @@ module _ (d : List ℕ) (s : Report) (out : List ℕ) where
     unfolding calls.generate generatedOn rowTried
     generates i row =
         by-check (λ k. P (generate i row) (ifAccepted k s out (generatedOn h t (literals d) s i row out))) (checked d)
-        (λ a. by-test (keeps h t s)
+        (λ a. by-test (stateOk h t s)
         (λ k. by-test (eqb (s .phase) idle)
         (λ n. rw (k, n) (B .no (generate i row) verdict.Phase (omega arith) (omega arith)))
         (λ n. by-test (ltb (theDetail h t i) (h .groups))
@@ -82,7 +85,7 @@ module _ (d : List ℕ) (s : Report) (out : List ℕ) where
     unfolding calls.terminate terminatedOn endTried
     terminates =
         by-check (λ k. P terminate (ifAccepted k s out (terminatedOn h t (literals d) s out))) (checked d)
-        (λ a. by-test (keeps h t s)
+        (λ a. by-test (stateOk h t s)
         (λ k. by-test (eqb (s .phase) idle)
         (λ n. rw (k, n) (B .no terminate verdict.Phase (omega arith) (omega arith)))
         (λ n. by-test (eqb (s .phase) started)

@@ -20,10 +20,10 @@ use Rattle.accepted.proofs.Accept.{accepted}
 use Rattle.sums.specs.Sums.{sumsOk}
 use Rattle.pagination.specs.All.{All}
 use Rattle.state.proofs.States.{by-phase}
-use Rattle.report.specs.declared.Report.{Report}
-use Rattle.report.specs.Verdict.{number}
-use Rattle.report.specs.State.{freshAt}
-use Rattle.report.specs.Result.{Result}
+use Rattle.state.specs.declared.State.{State}
+use Rattle.refusals.specs.Verdict.{number}
+use Rattle.state.specs.State.{freshAt}
+use Rattle.calls.specs.Result.{Result}
 use Rattle.state_bytes.specs.Bytes.{bytesOf, stateOf}
 use Rattle.state_bytes.proofs.Laws.{length-bytes}
 use Rattle.state_bytes.proofs.Again.{state-again, in-bytes}
@@ -86,47 +86,47 @@ module _ (d : List ℕ) where
     L : Laws h t
     L = laws h t (literals d) A
 
-    abbrev Tracked : Report → Book → Type 0
+    abbrev Tracked : State → Book → Type 0
     Tracked s b = Tracks d a A L s b
 
-    in-range : (s : Report) (b : Book) → Tracked s b → sumsOk (s .sums) ≡ true
+    in-range : (s : State) (b : Book) → Tracked s b → sumsOk (s .sums) ≡ true
     in-range s b T =
         by-phase h t (s .page) (s .line) (s .seen) (s .saved) (s .sums) (s .flags) (s .kept) (s .phase) (T .kept) (λ e. L .idle-facts s e (T .kept) .sumsIn)
         (λ e. rw (T .begins e .0) (L .zero-sums .range))
         (λ e. L .run-facts s e (T .kept) .sumsIn)
 
     -- a state that the run hands on, read from its bytes, is the state
-    read-back : (s : Report) (b : Book) → Tracked s b → Sized s → stateOf (bytesOf s) ≡ s
+    read-back : (s : State) (b : Book) → Tracked s b → Sized s → stateOf (bytesOf s) ≡ s
     read-back s b T z = state-again s (in-bytes s (T .sumsLong) (z .flags) (in-range s b T))
 
-    stored-next : (s : Report) (u : Use) → stored (bytesOf s) (did d s u .result .answer) ≡ bytesOf (did d s u .result .answer .report)
+    stored-next : (s : State) (u : Use) → stored (bytesOf s) (did d s u .result .answer) ≡ bytesOf (did d s u .result .answer .state)
     stored-next s u =
         by-test (taken d (did d s u .result)) (λ e. rw e refl)
         (λ e. rw e (sym (ap bytesOf (refusal d s (u .out) (u .call) e .state))))
 
-    step : (s : Report) (b : Book) → Tracked s b → Sized s → (u : Use) → leaves d (bytesOf s) u ≡ written d (did d s u)
+    step : (s : State) (b : Book) → Tracked s b → Sized s → (u : Use) → leaves d (bytesOf s) u ≡ written d (did d s u)
     step s b T z u =
-        ap (λ (x : Report). leaving (bytesOf s) (answer d x (u .call) (u .out))) (read-back s b T z)
+        ap (λ (x : State). leaving (bytesOf s) (answer d x (u .call) (u .out))) (read-back s b T z)
         ∙ ap (λ (x : List ℕ). record { state = x; out = did d s u .result .out; numbers = written d (did d s u) .numbers }) (stored-next s u)
 
     -- what a call hands on
-    next-tracked : (s : Report) (b : Book) (T : Tracked s b) (u : Use) → Tracked (did d s u .result .answer .report) (enter h t b (u .call) (taken d (did d s u .result)) .next)
+    next-tracked : (s : State) (b : Book) (T : Tracked s b) (u : Use) → Tracked (did d s u .result .answer .state) (enter h t b (u .call) (taken d (did d s u .result)) .next)
     next-tracked s b T u = call-ok d a A L s b T (u .out) (u .call) .next
 
-    runs : (us : List Use) (s : Report) (b : Book) → Tracked s b → Sized s → runBytes d (bytesOf s) us ≡ map (written d) (run d s us)
+    runs : (us : List Use) (s : State) (b : Book) → Tracked s b → Sized s → runBytes d (bytesOf s) us ≡ map (written d) (run d s us)
     unfolding runBytes run
     runs [] s b T z = refl
     runs (u ∷ us) s b T z =
         let e = step s b T z u in
-        ap₂ _∷_ e (ap (λ (l : Left). runBytes d (l .state) us) e ∙ runs us (did d s u .result .answer .report) _ (next-tracked s b T u) (sized d s (u .out) z (u .call)))
+        ap₂ _∷_ e (ap (λ (l : Left). runBytes d (l .state) us) e ∙ runs us (did d s u .result .answer .state) _ (next-tracked s b T u) (sized d s (u .out) z (u .call)))
 
-    longs : (us : List Use) (s : Report) (b : Book) → Tracked s b → Sized s → All (λ l. length (l .state) ≡ 530) (map (written d) (run d s us))
+    longs : (us : List Use) (s : State) (b : Book) → Tracked s b → Sized s → All (λ l. length (l .state) ≡ 530) (map (written d) (run d s us))
     unfolding run
     longs [] s b T z = tt
     longs (u ∷ us) s b T z =
         let T2 = next-tracked s b T u in
         let z2 = sized d s (u .out) z (u .call) in
-        (length-bytes _ (replicate 530 0) (length-replicate {A = ℕ} 530 0) (z2 .flags) (T2 .sumsLong) (z2 .kept), longs us (did d s u .result .answer .report) _ T2 z2)
+        (length-bytes _ (replicate 530 0) (length-replicate {A = ℕ} 530 0) (z2 .flags) (T2 .sumsLong) (z2 .kept), longs us (did d s u .result .answer .state) _ T2 z2)
 
     printed-written : (xs : List (Done d)) → printedBytes (map (written d) xs) ≡ printed d xs
     unfolding printedBytes printed

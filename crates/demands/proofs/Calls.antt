@@ -24,20 +24,20 @@ use Rattle.layout.specs.Lines.{lineTotal}
 use Rattle.pages.specs.Bytes.{dueBytes, byteCount}
 use Rattle.pages.specs.Outcome.{pastLast, tooShort, outcome, written}
 use Rattle.pages.proofs.Bytes.{GroupsIn, in-layout, length-dueBytes, printed-part}
-use Rattle.state.specs.Rules.{started}
-use Rattle.report.specs.declared.Report.{Report}
-use Rattle.report.specs.declared.Verdict.{Verdict}
-use Rattle.report.specs.declared.Verdict.the-variants as verdict
-use Rattle.report.specs.Verdict.{number}
-use Rattle.report.specs.State.{freshAt}
-use Rattle.report.specs.Result.{Result, refuse, Work, moved, settled}
-use Rattle.report.specs.Calls.{firstWork, laterWork, rowWork, lastWork}
+use Rattle.state.specs.State.{started}
+use Rattle.state.specs.declared.State.{State}
+use Rattle.refusals.specs.declared.Verdict.{Verdict}
+use Rattle.refusals.specs.declared.Verdict.the-variants as verdict
+use Rattle.refusals.specs.Verdict.{number}
+use Rattle.state.specs.State.{freshAt}
+use Rattle.calls.specs.Result.{Result, refuse, Work, moved, settled}
+use Rattle.calls.specs.Calls.{firstWork, laterWork, rowWork, lastWork}
 use Rattle.book.specs.Book.{Call, generate, terminate}
 use Rattle.book.specs.Demand.{Use, answer, reads, taken, run, printed}
 use Rattle.demands.specs.Calls.{Refuses, work, next, Works, Demand1}
 use Rattle.demands.proofs.Branches.{each-call}
 
-module _ (d : List ℕ) (s : Report) (out : List ℕ) where
+module _ (d : List ℕ) (s : State) (out : List ℕ) where
   abbrev h : Head
   h = headOf d
 
@@ -62,7 +62,7 @@ module _ (d : List ℕ) (s : Report) (out : List ℕ) where
     long : length bytes ≡ byteCount h t (w .laid .dues)
     long = length-dueBytes h t (w .inputs) items groups
 
-    done : byteCount h t (w .laid .dues) ≤ length out → Whole c (record { answer = record { verdict = verdict.Accepted; count = byteCount h t (w .laid .dues); report = moved w (w .laid .to) }; out = splice out 0 bytes })
+    done : byteCount h t (w .laid .dues) ≤ length out → Whole c (record { answer = record { verdict = verdict.Accepted; count = byteCount h t (w .laid .dues); state = moved w (w .laid .to) }; out = splice out 0 bytes })
     done l = inl (record {
       accepted = refl;
       state = sym n;
@@ -109,4 +109,4 @@ module _ (d : List ℕ) (s : Report) (out : List ℕ) where
   sheet-once c e us = let r = refusal c e in rw (r .count, r .state) refl
 
   pub demand1 : (c : Call) → Demand1 d s c out
-  demand1 c = record { whole = whole c; once = λ e new. ap (λ (x : Report). answer d x c new) (refusal c e .state); sheet = sheet-once c }
+  demand1 c = record { whole = whole c; once = λ e new. ap (λ (x : State). answer d x c new) (refusal c e .state); sheet = sheet-once c }

@@ -14,26 +14,26 @@ use Rattle.tables.specs.Table.{table, literals, lineCount}
 use Rattle.lookup.specs.Find.{theDetail, details}
 use Rattle.accepted.proofs.Accept.{accepted}
 use Rattle.pages.specs.Outcome.{pastLast, tooShort, outcome}
-use Rattle.state.specs.Rules.{started}
+use Rattle.state.specs.State.{started}
 use Rattle.state.specs.Kept.{flagsSet}
 use Rattle.state.proofs.Kept.{length-padded}
-use Rattle.report.specs.declared.Report.{Report}
-use Rattle.report.specs.State.{freshAt}
-use Rattle.report.specs.Result.{Work, settled}
-use Rattle.report.specs.Calls.{cleared, breaks, firstWork, laterWork, rowWork, lastWork}
+use Rattle.state.specs.declared.State.{State}
+use Rattle.state.specs.State.{freshAt}
+use Rattle.calls.specs.Result.{Work, settled}
+use Rattle.calls.specs.Calls.{cleared, breaks, firstWork, laterWork, rowWork, lastWork}
 use Rattle.book.specs.Book.{Call}
 use Rattle.book.specs.Demand.{answer}
 use Rattle.demands.proofs.Branches.{each-call}
 
-pub record Sized (s : Report) : Type 0 where
+pub record Sized (s : State) : Type 0 where
   pub flags : length (s .flags) ≡ 8
   pub kept : length (s .kept) ≡ 256
 
 pub fresh-sized : (phase : ℕ) → Sized (freshAt phase)
 fresh-sized phase = record { flags = length-replicate 8 false; kept = length-replicate {A = ℕ} 256 0 }
 
-module _ (d : List ℕ) (s : Report) (out : List ℕ) (z : Sized s) where
-  settled-sized : (h : Head) (t : List ℕ) (w : Work) → length (w .flags) ≡ 8 → length (w .kept) ≡ 256 → Sized (settled h t s w out .answer .report)
+module _ (d : List ℕ) (s : State) (out : List ℕ) (z : Sized s) where
+  settled-sized : (h : Head) (t : List ℕ) (w : Work) → length (w .flags) ≡ 8 → length (w .kept) ≡ 256 → Sized (settled h t s w out .answer .state)
   unfolding settled outcome
   settled-sized h t w f k =
       by-test (w .ok)
@@ -61,13 +61,13 @@ module _ (d : List ℕ) (s : Report) (out : List ℕ) (z : Sized s) where
         by-test (eqb (s .phase) started) (λ e. rw e (length-padded row l))
         (λ e. rw e (by-cond (λ (k : List ℕ). length k ≡ 256) (breaks h _) (λ b. length-padded row l) (λ b. z .kept)))
 
-  last-sized : (h : Head) (t lits : List ℕ) → Sized (settled h t s (lastWork h t lits s) out .answer .report)
+  last-sized : (h : Head) (t lits : List ℕ) → Sized (settled h t s (lastWork h t lits s) out .answer .state)
   unfolding lastWork
   last-sized h t lits = settled-sized h t (lastWork h t lits s) (z .flags) (z .kept)
 
-  pub sized : (c : Call) → Sized (answer d s c out .answer .report)
+  pub sized : (c : Call) → Sized (answer d s c out .answer .state)
   sized =
-      each-call d s out (λ c r. Sized (r .answer .report))
+      each-call d s out (λ c r. Sized (r .answer .state))
       (record {
         no = λ c v a b. z;
         silent = λ c phase e n. fresh-sized phase;

@@ -8,8 +8,8 @@ use Rattle.tables.specs.Head.{headOf}
 use Rattle.tables.specs.Table.{table}
 use Rattle.pages.specs.Bytes.{dueBytes, byteCount}
 use Rattle.pagination.specs.All.{All}
-use Rattle.report.specs.State.{freshAt}
-use Rattle.report.specs.Result.{Result}
+use Rattle.state.specs.State.{freshAt}
+use Rattle.calls.specs.Result.{Result}
 use Rattle.state_bytes.specs.Bytes.{bytesOf, stateOf}
 use Rattle.report_c.specs.Leaves.{stored, numbers}
 use Rattle.book.specs.Demand.{Use, answer, reads, Done, run, printed, Demand3}
@@ -75,7 +75,7 @@ module _ (d : List ℕ) where
   -- ---- demand 3
   -- a call of the run over values, with the state that it hands on as bytes
   abbrev pub written : Done d → Left
-  written x = record { state = bytesOf (x .result .answer .report); out = x .result .out; numbers = numbers (x .result .answer) }
+  written x = record { state = bytesOf (x .result .answer .state); out = x .result .out; numbers = numbers (x .result .answer) }
 
   pub record Demand3Bytes (us : List Use) : Type 0 where
     -- call by call the same numbers, the same output, and the same state, as bytes

@@ -10,51 +10,51 @@ use Rattle.tables.specs.Head.{headOf}
 use Rattle.tables.specs.Table.{table, literals}
 use Rattle.layout.specs.Layout.{Due}
 use Rattle.pages.specs.Bytes.{dueBytes, byteCount}
-use Rattle.state.specs.Rules.{idle, started}
-use Rattle.report.specs.declared.Report.{Report}
-use Rattle.report.specs.Verdict.{number}
-use Rattle.report.specs.State.{freshAt}
-use Rattle.report.specs.Result.{Result, moved}
-use Rattle.report.specs.Calls.{rowWork, lastWork}
+use Rattle.state.specs.State.{idle, started}
+use Rattle.state.specs.declared.State.{State}
+use Rattle.refusals.specs.Verdict.{number}
+use Rattle.state.specs.State.{freshAt}
+use Rattle.calls.specs.Result.{Result, moved}
+use Rattle.calls.specs.Calls.{rowWork, lastWork}
 use Rattle.book.specs.Book.{Call, initiate, generate, terminate}
 use Rattle.book.specs.Demand.{Use, answer, reads, taken, run, printed}
 
 -- "refuses by a number of the table. A refusal gives the old state back and touches no byte of the output"; document 01: "Every refusal returns
 -- its number, count 0 and the state handed in; the output stays untouched."
-pub record Refuses (s : Report) (out : List ℕ) (r : Result) : Type 0 where
+pub record Refuses (s : State) (out : List ℕ) (r : Result) : Type 0 where
   pub listed : (1 ≤ number (r .answer .verdict)) × (number (r .answer .verdict) ≤ 9)
-  pub state : r .answer .report ≡ s
+  pub state : r .answer .state ≡ s
   pub count : r .answer .count ≡ 0
   pub output : r .out ≡ out
 
 module _ (d : List ℕ) where
   -- the groups that a call has to print: those of its layout. "TERMINATE when started prints nothing"
-  abbrev pub work : Report → Call → List Due
+  abbrev pub work : State → Call → List Due
   work s initiate = []
   work s (generate i row) = rowWork (headOf d) (table d) (literals d) s i row .laid .dues
   work s terminate = cond (eqb (s .phase) started) [] (lastWork (headOf d) (table d) (literals d) s .laid .dues)
 
   -- the state that the call's whole work leaves: "INITIATE yields started"; a row or the last groups leave the place that their layout reaches
-  abbrev pub next : Report → Call → Report
+  abbrev pub next : State → Call → State
   next s initiate = freshAt started
   next s (generate i row) = let w = rowWork (headOf d) (table d) (literals d) s i row in moved w (w .laid .to)
   next s terminate = cond (eqb (s .phase) started) (freshAt idle) (let w = lastWork (headOf d) (table d) (literals d) s in moved w (w .laid .to))
 
   -- "does its whole work": the next state, every line of every group, "lines times W + 10" bytes of it; "output bytes from that count on stay as
   -- they were"
-  pub record Works (s : Report) (c : Call) (out : List ℕ) (r : Result) : Type 0 where
+  pub record Works (s : State) (c : Call) (out : List ℕ) (r : Result) : Type 0 where
     pub accepted : number (r .answer .verdict) ≡ 0
-    pub state : r .answer .report ≡ next s c
+    pub state : r .answer .state ≡ next s c
     pub lines : take (r .answer .count) (r .out) ≡ dueBytes (headOf d) (table d) (reads d s c) (work s c)
     pub count : r .answer .count ≡ byteCount (headOf d) (table d) (work s c)
     pub room : r .answer .count ≤ length out
     pub size : length (r .out) ≡ length out
     pub rest : drop (r .answer .count) (r .out) ≡ drop (r .answer .count) out
 
-  pub record Demand1 (s : Report) (c : Call) (out : List ℕ) : Type 0 where
+  pub record Demand1 (s : State) (c : Call) (out : List ℕ) : Type 0 where
     -- "each call does its whole work or refuses by a number of the table"
     pub whole : Works s c out (answer d s c out) ⊎ Refuses s out (answer d s c out)
     -- "so a repeated call counts once": a call that was refused, made again on the state that it gave back, gives what the one call gives
-    pub once : taken d (answer d s c out) ≡ false → (new : List ℕ) → answer d (answer d s c out .answer .report) c new ≡ answer d s c new
+    pub once : taken d (answer d s c out) ≡ false → (new : List ℕ) → answer d (answer d s c out .answer .state) c new ≡ answer d s c new
     -- and the sheet of the calls that follow is as if it had not been made
     pub sheet : taken d (answer d s c out) ≡ false → (us : List Use) → printed d (run d s (record { call = c; out = out } ∷ us)) ≡ printed d (run d s us)

@@ -16,8 +16,8 @@ use Rattle.items.specs.Items.{ruleD7}
 use Rattle.counters.specs.Counters.{ruleD8}
 use Rattle.description.specs.declared.Checked.the-variants.{Accepted}
 use Rattle.description.specs.Check.{checked}
-use Rattle.report.specs.declared.Report.{Report}
-use Rattle.report.specs.State.{freshAt}
+use Rattle.state.specs.declared.State.{State}
+use Rattle.state.specs.State.{freshAt}
 use Rattle.state_bytes.specs.Bytes.{stateOf}
 use Rattle.report_c.specs.Leaves.{Leaves}
 use Rattle.book.specs.Book.{Call}
@@ -39,7 +39,7 @@ pub record KeepsRules (d : List ℕ) : Type 0 where
 pub record Demands : Type 0 where
   -- "1. Whatever bytes come in as description, state or record, each call does its whole work or refuses by a number of the table. A refusal gives
   -- the old state back and touches no byte of the output, so a repeated call counts once. Nobody has to check anything beforehand."
-  pub first : (d : List ℕ) (s : Report) (c : Call) (out : List ℕ) → Demand1 d s c out
+  pub first : (d : List ℕ) (s : State) (c : Call) (out : List ℕ) → Demand1 d s c out
   -- the exported calls, on the bytes of a state: what the promise of one says that it leaves is `leaves`
   pub promised : (d old : List ℕ) (u : Use) (state out answered : List ℕ) → Leaves (answer d (stateOf old) (u .call) (u .out)) old state out answered
       → record { state = state; out = out; numbers = answered } ≡ leaves d old u

@@ -6,6 +6,7 @@ use Prim.Native.Nat.{ℕ, _≤_, _<_}
 use Rattle.tables.specs.declared.Head.{Head}
 use Rattle.lookup.specs.Find.{theGroup}
 use Rattle.fits.specs.Starts.{startFrom}
+use Rattle.place.specs.Place.{lastPage}
 use Rattle.place.specs.Rules.{Described, NextIn}
 use Rattle.shape.specs.Shape.{bodyOf, nextOf, frameOf}
 use Rattle.shape.specs.Facts.{Small}
@@ -28,7 +29,7 @@ pub record Starts (h : Head) (t : List ℕ) (above type : ℕ) (r : Start) : Typ
 pub record Called (h : Head) (t : List ℕ) (p : Plan) (s : Pos) : Type 0 where
   pub small : Small h t
   pub planned : Planned h p
-  pub page : s .page ≤ 999999
+  pub page : s .page ≤ lastPage
 
 -- what a turn of it needs: 17 turns of two page changes each, and RF's own page, stay below
 pub record Ready (h : Head) (t : List ℕ) (d : Turn) (s : Pos) : Type 0 where

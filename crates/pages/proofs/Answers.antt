@@ -10,6 +10,7 @@ use Rattle.splice.specs.Splice.{splice}
 use Rattle.printed.specs.Printed.{recordSize}
 use Rattle.tables.specs.declared.Head.{Head}
 use Rattle.plan.specs.declared.Plan.{Plan}
+use Rattle.place.specs.Place.{lastPage}
 use Rattle.layout.specs.declared.Pos.{Pos}
 use Rattle.layout.specs.Layout.{Laid, layout}
 use Rattle.measure.specs.declared.Measured.{Measured}
@@ -18,7 +19,7 @@ use Rattle.call_text.specs.Bytes.{Reading, dueBytes, byteCount}
 use Rattle.call_text.specs.Facts.{Printable, Room}
 use Rattle.call_text.proofs.Bytes.{in-layout, length-dueBytes}
 use Rattle.pages.specs.declared.Outcome.the-variants.{Done, PageLimit, NoRoom}
-use Rattle.pages.specs.Outcome.{lastPage, outcome, written}
+use Rattle.pages.specs.Outcome.{outcome, written}
 use Rattle.pages.specs.Facts.{Answered}
 
 -- at most 6,000,000 lines of W + 10 bytes, each behind at most two

@@ -7,15 +7,13 @@ use lib.ListN.{length}
 use Rattle.splice.specs.Splice.{splice}
 use Rattle.printed.specs.declared.Prefix.{Prefix}
 use Rattle.tables.specs.declared.Head.{Head}
+use Rattle.place.specs.Place.{lastPage}
 use Rattle.layout.specs.Layout.{Laid}
 use Rattle.call_text.specs.Bytes.{Reading, dueBytes, byteCount}
 use Rattle.pages.specs.declared.Outcome.{Outcome}
 use Rattle.pages.specs.declared.Outcome.the-variants.{Done, PageLimit, NoRoom}
 
 -- "a page change, RF's turn too, would pass page 999,999"
-abbrev pub lastPage : ℕ
-lastPage = 999999
-
 abbrev pub pastLast : Laid → Bool
 pastLast a = ltb lastPage (a .to .page)
 

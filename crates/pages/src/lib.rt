@@ -6,12 +6,10 @@ ghost use Rattle.call_text.specs.Facts.{Printable};
 ghost use Rattle.pages.specs.Facts.{Answered};
 use call_text::Task;
 use layout::Pos;
+use place::LAST_PAGE;
 use plan::Plan;
 use printed::Prefix;
 use tables::Head;
-
-// The last page that prints; refusal 8 is for a change from it.
-pub const LAST_PAGE: u32 = 999999;
 
 // What a call answers: the bytes written and the next place, or refusal 8 or 9.
 pub enum Outcome {

@@ -2,7 +2,7 @@
 -- its page changes; the page number, PF and PH are its caller's. "n is the first line's integer"; "Seen" means a body group has printed
 -- on this page. Assumes nothing: these are definitions.
 use Prim.Native.Nat.{ℕ, _+_, min}
-use mathlib.Core.Bool.{true, false, cond}
+use mathlib.Core.Bool.{Bool, true, false, cond, _&&_}
 use lib.Dec.{ltb, leb, eqb}
 use Rattle.place.specs.declared.Frame.{Frame}
 use Rattle.place.specs.declared.First.{First}
@@ -12,6 +12,13 @@ use Rattle.place.specs.declared.Spot.{Spot}
 use Rattle.place.specs.declared.Landing.{Landing}
 use Rattle.place.specs.declared.Next.{Next}
 use Rattle.place.specs.declared.Next.the-variants as next
+
+-- "page 1 to 999,999"
+abbrev pub lastPage : ℕ
+lastPage = 999999
+
+abbrev pub isPage : ℕ → Bool
+isPage page = leb 1 page && leb page lastPage
 
 -- "A page change prints PF, adds 1 to page, sets line 0, clears seen, prints PH."
 abbrev pub newPage : Frame → Spot → Spot

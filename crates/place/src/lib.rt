@@ -1,7 +1,10 @@
 // Where a body group lands on the page, and what its next-group clause leaves.
 ghost use mathlib.Core.Path.{_≡_};
-ghost use Rattle.place.specs.Place.{atSaved, landing, followed};
+ghost use Rattle.place.specs.Place.{isPage, atSaved, landing, followed};
 ghost use Rattle.place.specs.Fit.{absoluteTest, nextPageTest, relativeTest, fitTest, afterChange, changed, fits};
+
+// The last page that prints; refusal 8 is for a change from it.
+pub const LAST_PAGE: u32 = 999_999;
 
 // The parts of the page that placement reads: the first detail line FD, the last line FT of the
 // control footings, and the last line of the page heading on a later page (0 where there is none).
@@ -51,6 +54,13 @@ pub struct Landing {
     pub at: u16,
     pub spot: Spot,
     pub changes: u16,
+}
+
+// Whether a page may print.
+pub fn is_page(page: u32) -> bool
+    ensures { λ r. ⌜ r ≡ isPage page ⌝ }
+{
+    (1 <= page) & (page <= LAST_PAGE)
 }
 
 // Where a body group lands.

@@ -12,13 +12,15 @@ use Rattle.tables.specs.Table.{table}
 use Rattle.description.specs.declared.Checked.{Checked}
 use Rattle.description.specs.declared.Checked.the-variants.{Accepted, Broken}
 use Rattle.description.specs.Check.{checked}
-use Rattle.report.specs.declared.Report.{Report}
-use Rattle.report.specs.declared.Tried.{Tried}
-use Rattle.report.specs.declared.Tried.the-variants.{Passed, Refused}
-use Rattle.report.specs.declared.Answer.{Answer}
-use Rattle.report.specs.Calls.{startTried, unless, begun, ifAccepted, initiatedOn, initiate}
-use Rattle.report.specs.Result.{Result, Returns}
-use Rattle.report.specs.Verdict.{number}
+use Rattle.state.specs.declared.State.{State}
+use Rattle.refusals.specs.declared.Tried.{Tried}
+use Rattle.refusals.specs.declared.Tried.the-variants.{Passed, Refused}
+use Rattle.calls.specs.declared.Answer.{Answer}
+use Rattle.refusals.specs.Stages.{startTried}
+use Rattle.calls.specs.Calls.{unless, begun, callOn}
+use Rattle.report.specs.Calls.{ifAccepted, call, initiate}
+use Rattle.calls.specs.Result.{Result, Returns}
+use Rattle.refusals.specs.Verdict.{number}
 use Rattle.state_bytes.specs.Bytes.{bytesOf}
 use Rattle.report_c.specs.Leaves.{stored, numbers, Leaves, Tells}
 
@@ -30,20 +32,20 @@ three (a ∷ b ∷ []) l e f g = absurd (omega arith)
 three (a ∷ b ∷ c ∷ []) l e f g = rw (e, f, g) refl
 three (a ∷ b ∷ c ∷ d ∷ r) l e f g = absurd (omega arith)
 
-pub accepted-stored : (old : List ℕ) (a : Answer) → eqb (number (a .verdict)) 0 ≡ true → bytesOf (a .report) ≡ stored old a
+pub accepted-stored : (old : List ℕ) (a : Answer) → eqb (number (a .verdict)) 0 ≡ true → bytesOf (a .state) ≡ stored old a
 accepted-stored old a e = rw e refl
 
 pub refused-stored : (old : List ℕ) (a : Answer) → eqb (number (a .verdict)) 0 ≡ false → old ≡ stored old a
 refused-stored old a e = rw e refl
 
 -- INITIATE leaves every output as it was
-out-kept : (k : Checked) (t : Tried) (s : Report) → [] ≡ ifAccepted k s [] (unless s [] (begun []) t) .out
+out-kept : (k : Checked) (t : Tried) (s : State) → [] ≡ ifAccepted k s [] (unless s [] (begun []) t) .out
 out-kept Accepted Passed s = refl
 out-kept Accepted (Refused v) s = refl
 out-kept (Broken n) t s = refl
 
-pub initiate-out : (d : List ℕ) (s : Report) → [] ≡ initiate d s [] .out
-unfolding initiate initiatedOn
+pub initiate-out : (d : List ℕ) (s : State) → [] ≡ initiate d s [] .out
+unfolding call callOn
 initiate-out d s = out-kept (checked d) (startTried (headOf d) (table d) s) s
 
 -- a call's result, told

@@ -3,14 +3,14 @@ use Prim.Native.Nat.{ℕ}
 use mathlib.Core.Path.{_≡_}
 use mathlib.Core.Bool.{cond}
 use mathlib.Core.List.{List, [], _∷_}
-use Rattle.report.specs.declared.Answer.{Answer}
-use Rattle.report.specs.Result.{Result}
-use Rattle.report.specs.Verdict.{number, extra, accepted}
+use Rattle.calls.specs.declared.Answer.{Answer}
+use Rattle.calls.specs.Result.{Result}
+use Rattle.refusals.specs.Verdict.{number, extra, accepted}
 use Rattle.state_bytes.specs.Bytes.{bytesOf}
 
 -- "Every refusal returns its number, count 0 and the state handed in": the state's bytes change only where the call is accepted
 abbrev pub stored : List ℕ → Answer → List ℕ
-stored old a = cond (accepted (a .verdict)) (bytesOf (a .report)) old
+stored old a = cond (accepted (a .verdict)) (bytesOf (a .state)) old
 
 -- number, extra number and count
 abbrev pub numbers : Answer → List ℕ

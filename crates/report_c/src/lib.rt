@@ -4,12 +4,14 @@ ghost use mathlib.Core.List.{[]};
 ghost use lib.ListN.{length};
 ghost use Rattle.description.specs.Check.{checked};
 ghost use Rattle.description.specs.Refusal.{extra as broken};
-ghost use Rattle.report.specs.State.{freshAt};
+ghost use Rattle.state.specs.State.{idle, freshAt};
 ghost use Rattle.report.specs.Calls.{initiate as initiateSpec, generate as generateSpec, terminate as terminateSpec};
-ghost use Rattle.state_bytes.specs.Bytes.{bytesOf, stateOf};
+ghost use Rattle.state_bytes.specs.Bytes.{stateSize, bytesOf, stateOf};
 ghost use Rattle.report_c.specs.Leaves.{Leaves, Tells};
-use report::Answer;
+use calls::Answer;
 use report::Report;
+use state::State;
+use state_bytes::STATE_SIZE;
 
 // CHECK: 0 where the description is accepted, else the first broken rule.
 #[no_mangle]
@@ -22,7 +24,7 @@ pub extern "C" fn bailcurlew_check(d: &[u8]) -> u32
 
 // Tells the answer, and stores the next state where the call was accepted.
 fn tell(a: Answer, state: &mut [u8], answer: &mut [u64])
-    requires { ⌜ (length (now state) ≡ 530) × (length (now answer) ≡ 3) ⌝ }
+    requires { ⌜ (length (now state) ≡ stateSize) × (length (now answer) ≡ 3) ⌝ }
     ensures { λ _. ⌜ Tells a (now (state .entry)) (now (state .exit)) (now (answer .exit)) ⌝ }
 {
     let v = a.verdict;
@@ -31,27 +33,28 @@ fn tell(a: Answer, state: &mut [u8], answer: &mut [u64])
     answer[1] = v.extra();
     answer[2] = a.count as u64;
     if n == 0 {
-        let s = a.report;
+        let s = a.state;
         state_bytes::encode(s, state);
     }
 }
 
 // A fresh report.
 #[no_mangle]
-pub extern "C" fn bailcurlew_fresh(state: &mut [u8; 530])
-    ensures { λ _. ⌜ now (state .exit) ≡ bytesOf (freshAt 0) ⌝ }
+pub extern "C" fn bailcurlew_fresh(state: &mut [u8; STATE_SIZE])
+    ensures { λ _. ⌜ now (state .exit) ≡ bytesOf (freshAt idle) ⌝ }
 {
-    let s = Report::fresh();
+    let s = State::fresh();
     state_bytes::encode(s, state);
 }
 
 // INITIATE.
 #[no_mangle]
-pub extern "C" fn bailcurlew_initiate(d: &[u8], state: &mut [u8; 530], answer: &mut [u64; 3])
+pub extern "C" fn bailcurlew_initiate(d: &[u8], state: &mut [u8; STATE_SIZE], answer: &mut [u64; 3])
     ensures { λ _. ⌜ Leaves (initiateSpec (now (d .entry)) (stateOf (now (state .entry))) []) (now (state .entry)) (now (state .exit)) [] (now (answer .exit)) ⌝ }
 {
     let s = state_bytes::decode(state);
-    let a = s.initiate(d);
+    let report = Report { state: s };
+    let a = report.initiate(d);
     tell(a, state, answer);
 }
 
@@ -59,7 +62,7 @@ pub extern "C" fn bailcurlew_initiate(d: &[u8], state: &mut [u8; 530], answer: &
 #[no_mangle]
 pub extern "C" fn bailcurlew_generate(
     d: &[u8],
-    state: &mut [u8; 530],
+    state: &mut [u8; STATE_SIZE],
     detail: usize,
     rec: &[u8],
     out: &mut [u8],
@@ -68,7 +71,8 @@ pub extern "C" fn bailcurlew_generate(
     ensures { λ _. ⌜ Leaves (generateSpec (now (d .entry)) (stateOf (now (state .entry))) detail (now (rec .entry)) (now (out .entry))) (now (state .entry)) (now (state .exit)) (now (out .exit)) (now (answer .exit)) ⌝ }
 {
     let s = state_bytes::decode(state);
-    let a = s.generate(d, detail, rec, out);
+    let report = Report { state: s };
+    let a = report.generate(d, detail, rec, out);
     tell(a, state, answer);
 }
 
@@ -76,13 +80,14 @@ pub extern "C" fn bailcurlew_generate(
 #[no_mangle]
 pub extern "C" fn bailcurlew_terminate(
     d: &[u8],
-    state: &mut [u8; 530],
+    state: &mut [u8; STATE_SIZE],
     out: &mut [u8],
     answer: &mut [u64; 3],
 )
     ensures { λ _. ⌜ Leaves (terminateSpec (now (d .entry)) (stateOf (now (state .entry))) (now (out .entry))) (now (state .entry)) (now (state .exit)) (now (out .exit)) (now (answer .exit)) ⌝ }
 {
     let s = state_bytes::decode(state);
-    let a = s.terminate(d, out);
+    let report = Report { state: s };
+    let a = report.terminate(d, out);
     tell(a, state, answer);
 }

@@ -5,8 +5,9 @@ ghost use lib.ListN.{length};
 ghost use Rattle.io.specs.Counts.{Counts};
 use libc::STDERR_FILENO;
 use libc::STDOUT_FILENO;
+use refusals::Verdict;
 use report::Report;
-use report::Verdict;
+use state::State;
 
 // A description that keeps D1 has at most 12,928 bytes, so a longer file breaks it whatever the rest.
 const DESCRIPTION_ROOM: usize = 16_384;
@@ -21,7 +22,7 @@ const SHEET_ROOM: usize = 262_144;
 // Where the sheet stands: the state, bytes that wait in the output buffer, rows accepted, whether more records may
 // follow, and whether the sheet is whole so far.
 struct Sheet {
-    report: Report,
+    state: State,
     waiting: usize,
     rows: u64,
     more: bool,
@@ -102,11 +103,11 @@ fn flush(out: &[u8], waiting: usize) -> bool
 
 // ---- the calls
 // The sheet stops here.
-fn stopped(report: Report, rows: u64) -> Sheet
+fn stopped(state: State, rows: u64) -> Sheet
     ensures { λ r. ⌜ r .waiting ≡ 0 ⌝ }
 {
     Sheet {
-        report,
+        state,
         waiting: 0,
         rows,
         more: false,
@@ -115,18 +116,19 @@ fn stopped(report: Report, rows: u64) -> Sheet
 }
 
 // A refused row ends the sheet; what was accepted before it stands.
-fn end_at(report: Report, rows: u64, v: Verdict, out: &[u8], waiting: usize) -> Sheet
+fn end_at(state: State, rows: u64, v: Verdict, out: &[u8], waiting: usize) -> Sheet
     requires { ⌜ waiting ≤ length (now out) ⌝ }
     ensures { λ r. ⌜ r .waiting ≡ 0 ⌝ }
 {
     if flush(out, waiting) {
         tell_row(std::num::wrapping_add_u64(rows, 1), v);
     }
-    stopped(report, rows)
+    stopped(state, rows)
 }
 
 // The verdict on the record that the file ends in, where it is too short.
-fn short_row(d: &[u8], rec: &[u8], report: Report, out: &mut [u8]) -> Verdict {
+fn short_row(d: &[u8], rec: &[u8], state: State, out: &mut [u8]) -> Verdict {
+    let report = Report { state };
     let a = report.generate(d, 0, rec, out);
     a.verdict
 }
@@ -134,7 +136,7 @@ fn short_row(d: &[u8], rec: &[u8], report: Report, out: &mut [u8]) -> Verdict {
 // A part of the file: the state, output bytes that wait, rows accepted, record bytes done, what stopped it, and whether
 // the output could be written.
 struct Part {
-    report: Report,
+    state: State,
     waiting: usize,
     rows: u64,
     done: usize,
@@ -157,7 +159,7 @@ fn run_part(d: &[u8], rows: &[u8], size: usize, s: Sheet, out: &mut [u8]) -> Par
 {
     let n = rows.len();
     let room = out.len();
-    let mut report = s.report;
+    let mut state = s.state;
     let mut at = s.waiting;
     let mut done = s.rows;
     let mut k = 0;
@@ -166,10 +168,10 @@ fn run_part(d: &[u8], rows: &[u8], size: usize, s: Sheet, out: &mut [u8]) -> Par
     let mut turns = u64::MAX;
     while turns > 0 {
         turns -= 1;
-        let run = stream::generate_all(d, &rows[k..], size, report, &mut out[at..]);
-        let next = run.report;
+        let run = stream::generate_all(d, &rows[k..], size, state, &mut out[at..]);
+        let next = run.state;
         verdict = run.verdict;
-        report = next;
+        state = next;
         k += run.done;
         at += run.count;
         done = std::num::wrapping_add_u64(done, (run.done / size) as u64);
@@ -183,7 +185,7 @@ fn run_part(d: &[u8], rows: &[u8], size: usize, s: Sheet, out: &mut [u8]) -> Par
         at = 0;
     }
     Part {
-        report,
+        state,
         waiting: at,
         rows: done,
         done: k,
@@ -198,28 +200,28 @@ fn print_part(d: &[u8], rows: &[u8], size: usize, s: Sheet, out: &mut [u8]) -> S
     ensures { λ r. ⌜ r .waiting ≤ length (now (out .entry)) ⌝ }
 {
     let p = run_part(d, rows, size, s, out);
-    let report = p.report;
+    let state = p.state;
     let k = p.done;
     let at = p.waiting;
     let v = p.verdict;
     if !p.written {
-        return stopped(report, p.rows);
+        return stopped(state, p.rows);
     }
     match v {
         Verdict::Accepted => {
             if k < rows.len() {
-                let short = short_row(d, &rows[k..], report, &mut out[at..]);
-                return end_at(report, p.rows, short, out, at);
+                let short = short_row(d, &rows[k..], state, &mut out[at..]);
+                return end_at(state, p.rows, short, out, at);
             }
             Sheet {
-                report,
+                state,
                 waiting: at,
                 rows: p.rows,
                 more: true,
                 whole: true,
             }
         }
-        _ => end_at(report, p.rows, v, out, at),
+        _ => end_at(state, p.rows, v, out, at),
     }
 }
 
@@ -246,13 +248,13 @@ fn after_part(fd: i32, path: &[u8], is_full: bool, s: Sheet) -> Sheet
     if is_full {
         return s;
     }
-    let report = s.report;
+    let state = s.state;
     let is_broken = is_unreadable(fd);
     if is_broken {
         tell_failure(path);
     }
     Sheet {
-        report,
+        state,
         waiting: s.waiting,
         rows: s.rows,
         more: false,
@@ -313,7 +315,8 @@ fn finish(d: &[u8], s: Sheet, out: &mut [u8])
     requires { ⌜ s .waiting ≤ length (now out) ⌝ }
 {
     if flush(out, s.waiting) {
-        let report = s.report;
+        let state = s.state;
+        let report = Report { state };
         let a = report.terminate(d, out);
         let v = a.verdict;
         let count = counts::least(a.count, out.len());
@@ -338,7 +341,8 @@ fn record_length(d: &[u8]) -> usize {
 fn print_sheet(d: &[u8], fd: i32, path: &[u8], progress: bool, buffer: &mut [u8], out: &mut [u8])
     requires { ⌜ 65536 ≤ length (now buffer) ⌝ }
 {
-    let fresh = Report::fresh();
+    let state = State::fresh();
+    let fresh = Report { state };
     let a = fresh.initiate(d);
     let v = a.verdict;
     if v.number() != 0 {
@@ -346,9 +350,9 @@ fn print_sheet(d: &[u8], fd: i32, path: &[u8], progress: bool, buffer: &mut [u8]
         tell_refusal(v);
         return;
     }
-    let report = a.report;
+    let state = a.state;
     let start = Sheet {
-        report,
+        state,
         waiting: 0,
         rows: 0,
         more: true,

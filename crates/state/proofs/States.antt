@@ -1,12 +1,12 @@
 -- What a state that passes its tests says, and which states pass, for each phase.
---     idle-facts, idle-ok         the ranges
---     started-facts, started-ok   a fresh state but for the phase; fresh-ok the idle one
+--     idle-facts, idle-ok         the ranges; fresh-ok a fresh state
+--     started-facts, started-ok   a fresh state but for the phase
 --     running-facts, running-ok   the rules of a running state; running-formed its kept record
 --     by-phase                    a state that passes is in one of the phases
 -- Assumes nothing.
 use Prim.Native.Nat.{ℕ, _≤_, _<_}
 use mathlib.Core.Path.{_≡_, refl, sym, ap, _∙_}
-use mathlib.Core.Bool.{Bool, true, false, _&&_, not, false≢true}
+use mathlib.Core.Bool.{Bool, true, false, cond, _&&_, not, false≢true}
 use mathlib.Core.List.{List}
 use native.Mathlib.Omega.{arith}
 use borrow.Author.Tests.{le-leb, lt-ltb, eq-eqb, ne-eqb, ltb-true, leb-true, eqb-true, eqb-false, not-true}
@@ -14,6 +14,7 @@ use lib.Dec.{leb, eqb}
 use lib.IntN.{ℤ, pos}
 use lib.ListN.{length, getD, replicate, length-replicate, getD-replicate}
 use lib.Seq.{ext-getD}
+use Rattle.counts.specs.Below.{allBelow}
 use Rattle.counts.proofs.Laws.{by-test, and-l, and-r, or-r}
 use Rattle.tables.specs.declared.Head.{Head}
 use Rattle.lookup.specs.Find.{details}
@@ -23,12 +24,13 @@ use Rattle.rows.specs.Facts.{Formed}
 use Rattle.rows.proofs.Searches.{all-intro}
 use Rattle.rows.proofs.Values.{same-sound, same-complete}
 use Rattle.sums.specs.Sums.{sumOk, sumsOk}
+use Rattle.place.specs.Place.{lastPage}
+use Rattle.state.specs.declared.State.{State}
+use Rattle.state.specs.State.{idle, started, running, sumCount, flagCount, keptSize, freshAt}
 use Rattle.state.specs.Rules.{
-  idle,
-  started,
-  running,
-  lastPage,
+  lastSaved,
   rangesOk,
+  allFrom,
   zeroSum,
   zeroFlag,
   zeroByte,
@@ -43,7 +45,7 @@ use Rattle.state.specs.Rules.{
   runningOk,
   stateOk,
 }
-use Rattle.state.specs.Facts.{Testable, PageIn, Ranged, FreshState, RunningState}
+use Rattle.state.specs.Facts.{Testable, PageIn, Sized, Ranged, RunningState}
 use Rattle.state.proofs.From.{from-at, from-intro}
 
 -- four tests in a row
@@ -70,6 +72,11 @@ off-flag b e = rw e refl
 all-x : {A : Type 0} (x : A) (n : ℕ) (l : List A) → length l ≡ n → ((i : ℕ) → i < n → getD l i x ≡ x) → l ≡ replicate n x
 all-x x n l e h =
     ext-getD x l (replicate n x) (e ∙ sym (length-replicate n x)) (λ i b. let m : i < n = omega arith in h i m ∙ sym (getD-replicate n i x x m))
+
+-- a state is told by its parts
+same-state : {s : State} {phase page line saved : ℕ} {seen : Bool} {sums : List ℤ} {flags : List Bool} {kept : List ℕ} → s .phase ≡ phase → s .page ≡ page → s .line ≡ line → s .seen ≡ seen → s .saved ≡ saved → s .sums ≡ sums → s .flags ≡ flags → s .kept ≡ kept
+    → s ≡ record { phase = phase; page = page; line = line; seen = seen; saved = saved; sums = sums; flags = flags; kept = kept }
+same-state e1 e2 e3 e4 e5 e6 e7 e8 = rw (← e1, ← e2, ← e3, ← e4, ← e5, ← e6, ← e7, ← e8) refl
 
 -- the line and the saved integer of a running state
 
@@ -102,142 +109,121 @@ module _ (h : Head) (line : ℕ) where
       by-test (eqb saved 0) (λ e. rw e refl)
       (λ e. let p = s (eqb-false saved 0 e) in rw (e, le-leb (h .fd) saved (p .2), le-leb saved (h .ft) (p .3), p .0, eq-eqb line (h .ft) (p .1)) refl)
 
-module _ (h : Head) (t : List ℕ) (page line : ℕ) (seen : Bool) (saved : ℕ) (sums : List ℤ) (flags : List Bool) (kept : List ℕ) where
+module _ (h : Head) (t : List ℕ) (s : State) where
   -- idle: the ranges
 
-  ranges : rangesOk h page line saved sums ≡ true → Ranged h page line saved sums
+  ranges : rangesOk h (s .page) (s .line) (s .saved) (s .sums) ≡ true → Ranged h s
   unfolding rangesOk
   ranges e =
-      let a = leb 1 page in
-      let b = leb page lastPage in
-      let p = and4 (a && b) (leb line (h .page)) (leb saved 999) (sumsOk sums) e in
+      let a = leb 1 (s .page) in
+      let b = leb (s .page) lastPage in
+      let p = and4 (a && b) (leb (s .line) (h .page)) (leb (s .saved) lastSaved) (sumsOk (s .sums)) e in
       record {
-        first = leb-true 1 page (and-l a b (p .0));
-        last = leb-true page lastPage (and-r a b (p .0));
-        onPage = leb-true line (h .page) (p .1);
-        small = leb-true saved 999 (p .2);
+        first = leb-true 1 (s .page) (and-l a b (p .0));
+        last = leb-true (s .page) lastPage (and-r a b (p .0));
+        onPage = leb-true (s .line) (h .page) (p .1);
+        small = leb-true (s .saved) lastSaved (p .2);
         inRange = p .3;
       }
 
-  in-ranges : Ranged h page line saved sums → rangesOk h page line saved sums ≡ true
+  in-ranges : Ranged h s → rangesOk h (s .page) (s .line) (s .saved) (s .sums) ≡ true
   unfolding rangesOk
   in-ranges r =
-      rw (le-leb 1 page (r .first), le-leb page lastPage (r .last), le-leb line (h .page) (r .onPage), le-leb saved 999 (r .small)) (r .inRange)
+      rw (le-leb 1 (s .page) (r .first), le-leb (s .page) lastPage (r .last), le-leb (s .line) (h .page) (r .onPage), le-leb (s .saved) lastSaved (r .small))
+      (r .inRange)
 
-  pub idle-facts : stateOk h t idle page line seen saved sums flags kept ≡ true → Ranged h page line saved sums
+  -- the rules of a phase
+  in-phase : (k : ℕ) → s .phase ≡ k → stateOk h t s ≡ cond (eqb k idle) (rangesOk h (s .page) (s .line) (s .saved) (s .sums)) (cond (eqb k started) (freshOk s) (eqb k running && runningOk h t s))
   unfolding stateOk
-  idle-facts e = ranges e
+  in-phase k p = ap (λ (x : ℕ). cond (eqb x idle) (rangesOk h (s .page) (s .line) (s .saved) (s .sums)) (cond (eqb x started) (freshOk s) (eqb x running && runningOk h t s))) p
 
-  pub idle-ok : Ranged h page line saved sums → stateOk h t idle page line seen saved sums flags kept ≡ true
-  unfolding stateOk
-  idle-ok r = in-ranges r
+  pub idle-facts : s .phase ≡ idle → stateOk h t s ≡ true → Ranged h s
+  idle-facts p e = ranges (sym (in-phase idle p) ∙ e)
+
+  pub idle-ok : s .phase ≡ idle → Ranged h s → stateOk h t s ≡ true
+  idle-ok p r = in-phase idle p ∙ in-ranges r
 
   -- started: as fresh
 
-  pub started-facts : length sums ≡ 32 → length flags ≡ 8 → length kept ≡ 256 → stateOk h t started page line seen saved sums flags kept ≡ true
-      → FreshState page line seen saved sums flags kept
-  unfolding stateOk freshOk
-  started-facts ls lf lk e =
-      let a = eqb page 1 in
-      let b = eqb line 0 in
-      let c = eqb saved 0 in
-      let p = and4 (a && b && not seen && c) (zeroSums 0 sums) (zeroFlags 0 flags) (zeroBytes 0 kept) e in
-      let q = and4 a b (not seen) c (p .0) in
-      record {
-        firstPage = eqb-true page 1 (q .0);
-        noLine = eqb-true line 0 (q .1);
-        noBody = not-true seen (q .2);
-        noSaved = eqb-true saved 0 (q .3);
-        noSums = all-x (pos 0) 32 sums ls (λ i l. zero-number _ (from-at {k = 0} (zeroSum sums) (p .1) i (omega arith) l));
-        noFlags = all-x false 8 flags lf (λ i l. not-true _ (from-at {k = 0} (zeroFlag flags) (p .2) i (omega arith) l));
-        noRow = all-x 0 256 kept lk (λ i l. eqb-true _ _ (from-at {k = 0} (zeroByte kept) (p .3) i (omega arith) l));
-      }
-
-  pub started-ok : FreshState page line seen saved sums flags kept → stateOk h t started page line seen saved sums flags kept ≡ true
-  unfolding stateOk freshOk
-  started-ok f =
-      rw (
-        eq-eqb page 1 (f .firstPage),
-        eq-eqb line 0 (f .noLine),
-        f .noBody,
-        eq-eqb saved 0 (f .noSaved),
-        f .noSums,
-        f .noFlags,
-        f .noRow,
-        from-intro {k = 0} (zeroSum (replicate 32 (pos 0))) (λ i l m. number-zero _ (getD-replicate 32 i (pos 0) (pos 0) m)),
-        from-intro {k = 0} (zeroFlag (replicate 8 false)) (λ i l m. off-flag _ (getD-replicate 8 i false false m)),
-        from-intro {k = 0} (zeroByte (replicate 256 0)) (λ i l m. eq-eqb _ _ (getD-replicate 256 i 0 0 m)),
-      ) refl
+  pub started-facts : Sized s → s .phase ≡ started → stateOk h t s ≡ true → s ≡ freshAt started
+  unfolding freshOk
+  started-facts l i e =
+      let a = eqb (s .page) 1 in
+      let b = eqb (s .line) 0 in
+      let c = eqb (s .saved) 0 in
+      let p = and4 (a && b && not (s .seen) && c) (zeroSums 0 (s .sums)) (zeroFlags 0 (s .flags)) (zeroBytes 0 (s .kept)) (sym (in-phase started i) ∙ e) in
+      let q = and4 a b (not (s .seen)) c (p .0) in
+      same-state i (eqb-true (s .page) 1 (q .0)) (eqb-true (s .line) 0 (q .1)) (not-true (s .seen) (q .2)) (eqb-true (s .saved) 0 (q .3))
+      (all-x (pos 0) sumCount (s .sums) (l .sumsLong) (λ i l. zero-number _ (from-at {k = 0} (zeroSum (s .sums)) (p .1) i (omega arith) l)))
+      (all-x false flagCount (s .flags) (l .flagsLong) (λ i l. not-true _ (from-at {k = 0} (zeroFlag (s .flags)) (p .2) i (omega arith) l)))
+      (all-x 0 keptSize (s .kept) (l .keptLong) (λ i l. eqb-true _ _ (from-at {k = 0} (zeroByte (s .kept)) (p .3) i (omega arith) l)))
 
   -- running
 
-  pub running-facts : stateOk h t running page line seen saved sums flags kept ≡ true → RunningState h t page line seen saved sums flags kept
-  unfolding stateOk runningOk beyondOk keptOk
-  running-facts e =
-      let a = rangesOk h page line saved sums in
-      let b = lineOk h line seen in
-      let p = and4 (a && b) (savedOk h line seen saved) (beyondOk h t sums flags) (keptOk h t kept) e in
+  pub running-facts : s .phase ≡ running → stateOk h t s ≡ true → RunningState h t s
+  unfolding runningOk beyondOk keptOk
+  running-facts i e =
+      let a = rangesOk h (s .page) (s .line) (s .saved) (s .sums) in
+      let b = lineOk h (s .line) (s .seen) in
+      let p = and4 (a && b) (savedOk h (s .line) (s .seen) (s .saved)) (beyondOk h t (s .sums) (s .flags)) (keptOk h t (s .kept)) (sym (in-phase running i) ∙ e) in
       let r = ranges (and-l a b (p .0)) in
       let l = and-r a b (p .0) in
-      let z = zeroSums (h .counters) sums in
-      let f = zeroFlags (details h t) flags in
-      let w = formed h t kept in
-      let k = zeroBytes (h .reclen) kept in
+      let z = zeroSums (h .counters) (s .sums) in
+      let f = zeroFlags (details h t) (s .flags) in
+      let w = formed h t (s .kept) in
+      let k = zeroBytes (h .reclen) (s .kept) in
       record {
         first = r .first;
         last = r .last;
         inRange = r .inRange;
-        body = line-body h line seen l;
-        noBody = line-none h line seen l;
-        saving = saved-set h line seen saved (p .1);
-        beyondSums = λ i m n. zero-number _ (from-at (zeroSum sums) (and-l z f (p .2)) i m n);
-        beyondFlags = λ i m n. not-true _ (from-at (zeroFlag flags) (and-r z f (p .2)) i m n);
+        body = line-body h (s .line) (s .seen) l;
+        noBody = line-none h (s .line) (s .seen) l;
+        saving = saved-set h (s .line) (s .seen) (s .saved) (p .1);
+        beyondSums = λ i m n. zero-number _ (from-at (zeroSum (s .sums)) (and-l z f (p .2)) i m n);
+        beyondFlags = λ i m n. not-true _ (from-at (zeroFlag (s .flags)) (and-r z f (p .2)) i m n);
         formed = and-l w k (p .3);
-        beyondRow = λ i m n. eqb-true _ _ (from-at (zeroByte kept) (and-r w k (p .3)) i m n);
+        beyondRow = λ i m n. eqb-true _ _ (from-at (zeroByte (s .kept)) (and-r w k (p .3)) i m n);
       }
 
-  pub running-ok : PageIn h → RunningState h t page line seen saved sums flags kept → stateOk h t running page line seen saved sums flags kept ≡ true
-  unfolding stateOk runningOk beyondOk keptOk
-  running-ok g r =
-      rw (
+  pub running-ok : PageIn h → s .phase ≡ running → RunningState h t s → stateOk h t s ≡ true
+  unfolding runningOk beyondOk keptOk
+  running-ok g i r =
+      in-phase running i
+      ∙ rw (
         in-ranges
             (record {
               first = r .first;
               last = r .last;
-              onPage = by-test seen (λ s. omega (arith, r .body s, g .foot)) (λ s. omega (arith, r .noBody s, g .body, g .foot));
-              small = by-test (eqb saved 0) (λ e. omega (arith, eqb-true saved 0 e)) (λ e. omega (arith, r .saving (eqb-false saved 0 e), g .foot, g .short));
+              onPage = by-test (s .seen) (λ e. omega (arith, r .body e, g .foot)) (λ e. omega (arith, r .noBody e, g .body, g .foot));
+              small = by-test (eqb (s .saved) 0) (λ e. omega (arith, eqb-true (s .saved) 0 e)) (λ e. omega (arith, r .saving (eqb-false (s .saved) 0 e), g .foot, g .short));
               inRange = r .inRange;
             }),
-        line-ok h line seen (r .body) (r .noBody),
-        saved-ok h line seen saved (r .saving),
-        from-intro (zeroSum sums) (λ i m n. number-zero _ (r .beyondSums i m n)),
-        from-intro (zeroFlag flags) (λ i m n. off-flag _ (r .beyondFlags i m n)),
+        line-ok h (s .line) (s .seen) (r .body) (r .noBody),
+        saved-ok h (s .line) (s .seen) (s .saved) (r .saving),
+        from-intro (zeroSum (s .sums)) (λ i m n. number-zero _ (r .beyondSums i m n)),
+        from-intro (zeroFlag (s .flags)) (λ i m n. off-flag _ (r .beyondFlags i m n)),
         r .formed,
-        from-intro (zeroByte kept) (λ i m n. eq-eqb _ _ (r .beyondRow i m n)),
+        from-intro (zeroByte (s .kept)) (λ i m n. eq-eqb _ _ (r .beyondRow i m n)),
       ) refl
 
   -- the kept record of a running state can be read
-  pub running-formed : Testable h t sums kept → stateOk h t running page line seen saved sums flags kept ≡ true → Formed h t kept
-  running-formed g e =
-      record { whole = record { fields = g .fields; long = omega (arith, g .short, g .keptLong) }; formed = running-facts e .formed }
+  pub running-formed : Testable h t → Sized s → RunningState h t s → Formed h t (s .kept)
+  running-formed g l r = record { whole = record { fields = g .fields; long = omega (arith, g .short, l .keptLong) }; formed = r .formed }
 
   -- the phases
 
-  pub by-phase : {X : Type 0} (phase : ℕ) → stateOk h t phase page line seen saved sums flags kept ≡ true → (phase ≡ idle → X) → (phase ≡ started → X) → (phase ≡ running → X) → X
+  pub by-phase : {X : Type 0} → stateOk h t s ≡ true → (s .phase ≡ idle → X) → (s .phase ≡ started → X) → (s .phase ≡ running → X) → X
   unfolding stateOk
-  by-phase phase e a b c =
-      by-test (eqb phase idle) (λ i. a (eqb-true phase idle i))
-      (λ i. by-test (eqb phase started) (λ s. b (eqb-true phase started s)) (λ s. c (eqb-true phase running (and-l (eqb phase running) (runningOk h t page line seen saved sums flags kept) (rw (i, s) at e)))))
+  by-phase e a b c =
+      by-test (eqb (s .phase) idle) (λ i. a (eqb-true (s .phase) idle i))
+      (λ i. by-test (eqb (s .phase) started) (λ j. b (eqb-true (s .phase) started j))
+      (λ j. c (eqb-true (s .phase) running (and-l (eqb (s .phase) running) (runningOk h t s) (rw (i, j) at e)))))
 
 -- "A fresh report is idle, line 0, page 1, all else 0."
-pub fresh-ok : (h : Head) (t : List ℕ) → stateOk h t idle 1 0 false 0 (replicate 32 (pos 0)) (replicate 8 false) (replicate 256 0) ≡ true
-unfolding sumsOk
-fresh-ok h t =
-    idle-ok h t 1 0 false 0 (replicate 32 (pos 0)) (replicate 8 false) (replicate 256 0)
-    (record {
-      first = omega arith;
-      last = omega arith;
-      onPage = omega arith;
-      small = omega arith;
-      inRange = all-intro (sumOk (replicate 32 (pos 0))) 32 (λ i l. rw (getD-replicate 32 i (pos 0) (pos 0) l) refl);
-    })
+pub fresh-ok : (h : Head) (t : List ℕ) → stateOk h t (freshAt idle) ≡ true
+unfolding stateOk rangesOk sumsOk allBelow
+fresh-ok h t = rw (le-leb 0 (h .page) (omega arith)) refl
+
+pub started-ok : (h : Head) (t : List ℕ) → stateOk h t (freshAt started) ≡ true
+unfolding stateOk freshOk allFrom allBelow
+started-ok h t = refl

@@ -4,20 +4,21 @@ use mathlib.Core.Path.{_≡_}
 use mathlib.Core.Bool.{Bool, true, false}
 use mathlib.Core.List.{List}
 use lib.IntN.{ℤ, pos}
-use lib.ListN.{length, getD, replicate}
+use lib.ListN.{length, getD}
 use Rattle.tables.specs.declared.Head.{Head}
 use Rattle.lookup.specs.Find.{details}
+use Rattle.place.specs.Place.{lastPage}
 use Rattle.rows.specs.Fields.{formed as formedTest}
 use Rattle.rows.specs.Facts.{FieldsIn}
 use Rattle.sums.specs.Sums.{sumsOk}
-use Rattle.state.specs.Rules.{lastPage}
+use Rattle.state.specs.declared.State.{State}
+use Rattle.state.specs.State.{sumCount, flagCount, keptSize}
+use Rattle.state.specs.Rules.{lastSaved}
 
--- D2: "R 1 to 256"; D3: "fields inside the record"; "32 sums", "a kept record of 256 bytes"
-pub record Testable (h : Head) (t : List ℕ) (sums : List ℤ) (kept : List ℕ) : Type 0 where
+-- D3: "fields inside the record"; D2: "R 1 to 256"
+pub record Testable (h : Head) (t : List ℕ) : Type 0 where
   pub fields : FieldsIn h t
-  pub short : h .reclen ≤ 256
-  pub sumsLong : length sums ≡ 32
-  pub keptLong : length kept ≡ 256
+  pub short : h .reclen ≤ keptSize
 
 -- D2: "FD ≤ LD ≤ FT ≤ P ≤ 999"
 pub record PageIn (h : Head) : Type 0 where
@@ -25,34 +26,30 @@ pub record PageIn (h : Head) : Type 0 where
   pub foot : h .ft ≤ h .page
   pub short : h .page ≤ 999
 
--- "page 1 to 999,999, line 0 to P, .. saved integer 0 to 999, up to 32 sums each within ±(10^18 − 1)"
-pub record Ranged (h : Head) (page line saved : ℕ) (sums : List ℤ) : Type 0 where
-  pub first : 1 ≤ page
-  pub last : page ≤ lastPage
-  pub onPage : line ≤ h .page
-  pub small : saved ≤ 999
-  pub inRange : sumsOk sums ≡ true
+-- what the types say of a state
+pub record Sized (s : State) : Type 0 where
+  pub sumsLong : length (s .sums) ≡ sumCount
+  pub flagsLong : length (s .flags) ≡ flagCount
+  pub keptLong : length (s .kept) ≡ keptSize
 
--- "line 0, page 1, all else 0"
-pub record FreshState (page line : ℕ) (seen : Bool) (saved : ℕ) (sums : List ℤ) (flags : List Bool) (kept : List ℕ) : Type 0 where
-  pub firstPage : page ≡ 1
-  pub noLine : line ≡ 0
-  pub noBody : seen ≡ false
-  pub noSaved : saved ≡ 0
-  pub noSums : sums ≡ replicate 32 (pos 0)
-  pub noFlags : flags ≡ replicate 8 false
-  pub noRow : kept ≡ replicate 256 0
+-- "page 1 to 999,999, line 0 to P, .. saved integer 0 to 999, up to 32 sums each within ±(10^18 − 1)"
+pub record Ranged (h : Head) (s : State) : Type 0 where
+  pub first : 1 ≤ s .page
+  pub last : s .page ≤ lastPage
+  pub onPage : s .line ≤ h .page
+  pub small : s .saved ≤ lastSaved
+  pub inRange : sumsOk (s .sums) ≡ true
 
 -- "Running: sums and flags beyond the description's are 0; line FD to FT if body-seen, below FD if not; saved 0, or FD to FT with body-seen
 -- and line FT; kept bytes a well-formed record, then zeros."
-pub record RunningState (h : Head) (t : List ℕ) (page line : ℕ) (seen : Bool) (saved : ℕ) (sums : List ℤ) (flags : List Bool) (kept : List ℕ) : Type 0 where
-  pub first : 1 ≤ page
-  pub last : page ≤ lastPage
-  pub inRange : sumsOk sums ≡ true
-  pub body : seen ≡ true → (h .fd ≤ line) × (line ≤ h .ft)
-  pub noBody : seen ≡ false → line < h .fd
-  pub saving : (saved ≡ 0 → ⊥) → (seen ≡ true) × (line ≡ h .ft) × (h .fd ≤ saved) × (saved ≤ h .ft)
-  pub beyondSums : (i : ℕ) → h .counters ≤ i → i < 32 → getD sums i (pos 0) ≡ pos 0
-  pub beyondFlags : (i : ℕ) → details h t ≤ i → i < 8 → getD flags i false ≡ false
-  pub formed : formedTest h t kept ≡ true
-  pub beyondRow : (i : ℕ) → h .reclen ≤ i → i < 256 → getD kept i 0 ≡ 0
+pub record RunningState (h : Head) (t : List ℕ) (s : State) : Type 0 where
+  pub first : 1 ≤ s .page
+  pub last : s .page ≤ lastPage
+  pub inRange : sumsOk (s .sums) ≡ true
+  pub body : s .seen ≡ true → (h .fd ≤ s .line) × (s .line ≤ h .ft)
+  pub noBody : s .seen ≡ false → s .line < h .fd
+  pub saving : (s .saved ≡ 0 → ⊥) → (s .seen ≡ true) × (s .line ≡ h .ft) × (h .fd ≤ s .saved) × (s .saved ≤ h .ft)
+  pub beyondSums : (i : ℕ) → h .counters ≤ i → i < sumCount → getD (s .sums) i (pos 0) ≡ pos 0
+  pub beyondFlags : (i : ℕ) → details h t ≤ i → i < flagCount → getD (s .flags) i false ≡ false
+  pub formed : formedTest h t (s .kept) ≡ true
+  pub beyondRow : (i : ℕ) → h .reclen ≤ i → i < keptSize → getD (s .kept) i 0 ≡ 0

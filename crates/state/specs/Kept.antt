@@ -5,10 +5,11 @@ use mathlib.Core.List.{List, [], _∷_}
 use lib.Dec.{ltb}
 use lib.ListN.{replicate}
 use Rattle.splice.specs.Splice.{splice}
+use Rattle.state.specs.State.{keptSize}
 
 -- "a kept record of 256 bytes": the record, "then zeros"
 unfoldable pub paddedRow : List ℕ → List ℕ
-paddedRow row = splice (replicate 256 0) 0 row
+paddedRow row = splice (replicate keptSize 0) 0 row
 
 -- "set each detail's indicate flag": of eight flags, those of n details
 unfoldable pub flagsSet : ℕ → List Bool

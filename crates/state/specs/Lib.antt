@@ -1,4 +1,5 @@
--- The rules of a report's state.
+-- The state of a report and its rules.
+pub mod State
 pub mod Rules
 pub mod Kept
 pub mod Facts

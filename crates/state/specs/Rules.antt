@@ -1,4 +1,4 @@
--- The rules that a report's state keeps, over its parts.
+-- The rules that a report's state keeps.
 use Prim.Native.Nat.{ℕ, _+_, _-_}
 use mathlib.Core.Bool.{Bool, false, cond, _&&_, _||_, not}
 use mathlib.Core.List.{List}
@@ -8,27 +8,20 @@ use lib.ListN.{getD}
 use Rattle.counts.specs.Below.{allBelow}
 use Rattle.tables.specs.declared.Head.{Head}
 use Rattle.lookup.specs.Find.{details}
+use Rattle.place.specs.Place.{isPage}
 use Rattle.rows.specs.Fields.{formed}
 use Rattle.rows.specs.Values.{sameNumber}
 use Rattle.sums.specs.Sums.{sumsOk}
+use Rattle.state.specs.declared.State.{State}
+use Rattle.state.specs.State.{idle, started, running, sumCount, flagCount, keptSize}
 
--- "phase (idle, started, running)"
-abbrev pub idle : ℕ
-idle = 0
-
-abbrev pub started : ℕ
-started = 1
-
-abbrev pub running : ℕ
-running = 2
-
--- "page 1 to 999,999"
-abbrev pub lastPage : ℕ
-lastPage = 999999
+-- "saved integer 0 to 999"
+abbrev pub lastSaved : ℕ
+lastSaved = 999
 
 -- "page 1 to 999,999, line 0 to P, .. saved integer 0 to 999, up to 32 sums each within ±(10^18 − 1)"
 unfoldable pub rangesOk : Head → ℕ → ℕ → ℕ → List ℤ → Bool
-rangesOk h page line saved sums = leb 1 page && leb page lastPage && leb line (h .page) && leb saved 999 && sumsOk sums
+rangesOk h page line saved sums = isPage page && leb line (h .page) && leb saved lastSaved && sumsOk sums
 
 -- the test passes at every index from k on, below n
 unfoldable pub allFrom : ℕ → ℕ → (ℕ → Bool) → Bool
@@ -45,18 +38,21 @@ abbrev pub zeroByte : List ℕ → ℕ → Bool
 zeroByte kept i = eqb (getD kept i 0) 0
 
 abbrev pub zeroSums : ℕ → List ℤ → Bool
-zeroSums k sums = allFrom k 32 (zeroSum sums)
+zeroSums k sums = allFrom k sumCount (zeroSum sums)
 
 abbrev pub zeroFlags : ℕ → List Bool → Bool
-zeroFlags k flags = allFrom k 8 (zeroFlag flags)
+zeroFlags k flags = allFrom k flagCount (zeroFlag flags)
 
 abbrev pub zeroBytes : ℕ → List ℕ → Bool
-zeroBytes k kept = allFrom k 256 (zeroByte kept)
+zeroBytes k kept = allFrom k keptSize (zeroByte kept)
 
 -- "A fresh report is idle, line 0, page 1, all else 0. Started: as fresh but for the phase."
-unfoldable pub freshOk : ℕ → ℕ → Bool → ℕ → List ℤ → List Bool → List ℕ → Bool
-freshOk page line seen saved sums flags kept =
-    eqb page 1 && eqb line 0 && not seen && eqb saved 0 && zeroSums 0 sums && zeroFlags 0 flags && zeroBytes 0 kept
+unfoldable pub freshOk : State → Bool
+freshOk s =
+    eqb (s .page) 1 && eqb (s .line) 0 && not (s .seen) && eqb (s .saved) 0
+    && zeroSums 0 (s .sums)
+    && zeroFlags 0 (s .flags)
+    && zeroBytes 0 (s .kept)
 
 -- "line FD to FT if body-seen, below FD if not"
 abbrev pub lineOk : Head → ℕ → Bool → Bool
@@ -75,13 +71,15 @@ unfoldable pub keptOk : Head → List ℕ → List ℕ → Bool
 keptOk h t kept = formed h t kept && zeroBytes (h .reclen) kept
 
 -- "Running: ..", the ranges with it
-unfoldable pub runningOk : Head → List ℕ → ℕ → ℕ → Bool → ℕ → List ℤ → List Bool → List ℕ → Bool
-runningOk h t page line seen saved sums flags kept =
-    rangesOk h page line saved sums && lineOk h line seen && savedOk h line seen saved && beyondOk h t sums flags && keptOk h t kept
+unfoldable pub runningOk : Head → List ℕ → State → Bool
+runningOk h t s =
+    rangesOk h (s .page) (s .line) (s .saved) (s .sums) && lineOk h (s .line) (s .seen) && savedOk h (s .line) (s .seen) (s .saved)
+    && beyondOk h t (s .sums) (s .flags)
+    && keptOk h t (s .kept)
 
 -- the rules by the phase; "Idle asks only the ranges." An unlisted phase breaks them.
-unfoldable pub stateOk : Head → List ℕ → ℕ → ℕ → ℕ → Bool → ℕ → List ℤ → List Bool → List ℕ → Bool
-stateOk h t phase page line seen saved sums flags kept =
-    cond (eqb phase idle) (rangesOk h page line saved sums)
-    (cond (eqb phase started) (freshOk page line seen saved sums flags kept)
-    (eqb phase running && runningOk h t page line seen saved sums flags kept))
+unfoldable pub stateOk : Head → List ℕ → State → Bool
+stateOk h t s =
+    cond (eqb (s .phase) idle) (rangesOk h (s .page) (s .line) (s .saved) (s .sums))
+    (cond (eqb (s .phase) started) (freshOk s)
+    (eqb (s .phase) running && runningOk h t s))

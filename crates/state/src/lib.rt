@@ -1,34 +1,82 @@
-// The rules that a report's state keeps, over its parts; the kept record and the indicate flags that a call sets.
+// The state of a report and the rules that it keeps; the kept record and the indicate flags that a call sets.
 ghost use mathlib.Core.Path.{_≡_};
 ghost use Prim.Native.Nat.{_≤_};
 ghost use lib.ListN.{length};
 ghost use Rattle.rows.specs.Facts.{Whole};
 ghost use Rattle.sums.specs.Sums.{sumsOk};
+ghost use Rattle.state.specs.State.{idle, sumCount, keptSize, freshAt};
 ghost use Rattle.state.specs.Rules.{rangesOk, zeroSums, zeroFlags, zeroBytes, freshOk, lineOk, savedOk, beyondOk, keptOk, runningOk, stateOk};
 ghost use Rattle.state.specs.Kept.{paddedRow, flagsSet};
 ghost use Rattle.state.specs.Facts.{Testable};
 use tables::Head;
 
-// The phases.
-pub const IDLE: u8 = 0;
+// The sums, the indicate flags and the bytes of the kept record that a state has.
+pub const SUM_COUNT: usize = 32;
 
-pub const STARTED: u8 = 1;
+pub const FLAG_COUNT: usize = 8;
 
-pub const RUNNING: u8 = 2;
+pub const KEPT_SIZE: usize = 256;
 
-// The last page that may print, and the greatest saved integer.
-pub const LAST_PAGE: u32 = 999_999;
-
+// The greatest saved integer.
 pub const LAST_SAVED: u16 = 999;
+
+// The state of one report, handed in and given back by every call.
+pub struct State {
+    pub phase: u8,
+    pub page: u32,
+    pub line: u16,
+    pub seen: bool,
+    pub saved: u16,
+    pub sums: [i64; SUM_COUNT],
+    pub flags: [bool; FLAG_COUNT],
+    pub kept: [u8; KEPT_SIZE],
+}
+
+impl State {
+    // The phases.
+    pub const IDLE: u8 = 0;
+
+    pub const STARTED: u8 = 1;
+
+    pub const RUNNING: u8 = 2;
+
+    // The page limit and the sum range, by the constants that place and sums go by.
+    pub const LAST_PAGE: u32 = place::LAST_PAGE;
+
+    pub const SUM_RANGE: u64 = sums::LIMIT;
+
+    // A fresh state, in a phase.
+    pub fn at_phase(phase: u8) -> State
+        ensures { λ r. ⌜ r ≡ freshAt phase ⌝ }
+    {
+        State {
+            phase,
+            page: 1,
+            line: 0,
+            seen: false,
+            saved: 0,
+            sums: [0; SUM_COUNT],
+            flags: [false; FLAG_COUNT],
+            kept: [0; KEPT_SIZE],
+        }
+    }
+
+    // A fresh report.
+    pub fn fresh() -> State
+        ensures { λ r. ⌜ r ≡ freshAt idle ⌝ }
+    {
+        State::at_phase(State::IDLE)
+    }
+}
 
 // Whether every sum is in range.
 fn sums_ok(sums: &[i64]) -> bool
-    requires { ⌜ length (now sums) ≡ 32 ⌝ }
+    requires { ⌜ length (now sums) ≡ sumCount ⌝ }
     ensures { λ r. ⌜ r ≡ sumsOk (now (sums .entry)) ⌝ }
 {
     let mut ok = true;
     let mut i = 0;
-    while i < 32 {
+    while i < SUM_COUNT {
         let this = sums::within(sums[i]);
         ok = ok & this;
         i += 1;
@@ -38,12 +86,12 @@ fn sums_ok(sums: &[i64]) -> bool
 
 // Whether the sums from an index on are 0.
 fn zero_sums(from: usize, sums: &[i64]) -> bool
-    requires { ⌜ length (now sums) ≡ 32 ⌝ }
+    requires { ⌜ length (now sums) ≡ sumCount ⌝ }
     ensures { λ r. ⌜ r ≡ zeroSums from (now (sums .entry)) ⌝ }
 {
     let mut ok = true;
     let mut i = from;
-    while i < 32 {
+    while i < SUM_COUNT {
         let this = sums[i] == 0;
         ok = ok & this;
         i += 1;
@@ -52,12 +100,12 @@ fn zero_sums(from: usize, sums: &[i64]) -> bool
 }
 
 // Whether the flags from an index on are clear.
-fn zero_flags(from: usize, flags: [bool; 8]) -> bool
+fn zero_flags(from: usize, flags: [bool; FLAG_COUNT]) -> bool
     ensures { λ r. ⌜ r ≡ zeroFlags from flags ⌝ }
 {
     let mut ok = true;
     let mut i = from;
-    while i < 8 {
+    while i < FLAG_COUNT {
         let this = !flags[i];
         ok = ok & this;
         i += 1;
@@ -67,12 +115,12 @@ fn zero_flags(from: usize, flags: [bool; 8]) -> bool
 
 // Whether the kept bytes from an index on are 0.
 fn zero_bytes(from: usize, kept: &[u8]) -> bool
-    requires { ⌜ length (now kept) ≡ 256 ⌝ }
+    requires { ⌜ length (now kept) ≡ keptSize ⌝ }
     ensures { λ r. ⌜ r ≡ zeroBytes from (now (kept .entry)) ⌝ }
 {
     let mut ok = true;
     let mut i = from;
-    while i < 256 {
+    while i < KEPT_SIZE {
         let this = kept[i] == 0;
         ok = ok & this;
         i += 1;
@@ -82,32 +130,24 @@ fn zero_bytes(from: usize, kept: &[u8]) -> bool
 
 // The ranges, which are all that an idle state is asked.
 fn ranges_ok(h: Head, page: u32, line: u16, saved: u16, sums: &[i64]) -> bool
-    requires { ⌜ length (now sums) ≡ 32 ⌝ }
+    requires { ⌜ length (now sums) ≡ sumCount ⌝ }
     ensures { λ r. ⌜ r ≡ rangesOk h page line saved (now (sums .entry)) ⌝ }
 {
-    (1 <= page) & (page <= LAST_PAGE) & (line <= h.page) & (saved <= LAST_SAVED) & sums_ok(sums)
+    place::is_page(page) & (line <= h.page) & (saved <= LAST_SAVED) & sums_ok(sums)
 }
 
 // As a fresh report, whatever the phase.
-fn fresh_ok(
-    page: u32,
-    line: u16,
-    seen: bool,
-    saved: u16,
-    sums: &[i64],
-    flags: [bool; 8],
-    kept: &[u8],
-) -> bool
-    requires { ⌜ (length (now sums) ≡ 32) × (length (now kept) ≡ 256) ⌝ }
-    ensures { λ r. ⌜ r ≡ freshOk page line seen saved (now (sums .entry)) flags (now (kept .entry)) ⌝ }
+fn fresh_ok(s: State) -> bool
+    ensures { λ r. ⌜ r ≡ freshOk s ⌝ }
 {
-    (page == 1)
-        & (line == 0)
-        & !seen
-        & (saved == 0)
-        & zero_sums(0, sums)
+    let flags = s.flags;
+    (s.page == 1)
+        & (s.line == 0)
+        & !s.seen
+        & (s.saved == 0)
+        & zero_sums(0, &s.sums)
         & zero_flags(0, flags)
-        & zero_bytes(0, kept)
+        & zero_bytes(0, &s.kept)
 }
 
 // The line of a running state: in the body region where a body group has printed, else above it.
@@ -129,8 +169,8 @@ fn saved_ok(h: Head, line: u16, seen: bool, saved: u16) -> bool
 }
 
 // No sum beyond the counters, no flag beyond the details.
-fn beyond_ok(t: &[u16], h: Head, sums: &[i64], flags: [bool; 8]) -> bool
-    requires { ⌜ length (now sums) ≡ 32 ⌝ }
+fn beyond_ok(t: &[u16], h: Head, sums: &[i64], flags: [bool; FLAG_COUNT]) -> bool
+    requires { ⌜ length (now sums) ≡ sumCount ⌝ }
     ensures { λ r. ⌜ r ≡ beyondOk h (now (t .entry)) (now (sums .entry)) flags ⌝ }
 {
     zero_sums(tables::wide(h.counters), sums) & zero_flags(lookup::details_of(t, h), flags)
@@ -138,7 +178,7 @@ fn beyond_ok(t: &[u16], h: Head, sums: &[i64], flags: [bool; 8]) -> bool
 
 // A well-formed record, then zeros.
 fn kept_ok(t: &[u16], h: Head, kept: &[u8]) -> bool
-    requires { ⌜ Whole h (now t) (now kept) × (length (now kept) ≡ 256) ⌝ }
+    requires { ⌜ Testable h (now t) × (length (now kept) ≡ keptSize) ⌝ }
     ensures { λ r. ⌜ r ≡ keptOk h (now (t .entry)) (now (kept .entry)) ⌝ }
 {
     let first = rows::first_malformed(t, h, kept);
@@ -146,67 +186,48 @@ fn kept_ok(t: &[u16], h: Head, kept: &[u8]) -> bool
 }
 
 // The rules of a running state.
-fn running_ok(
-    t: &[u16],
-    h: Head,
-    page: u32,
-    line: u16,
-    seen: bool,
-    saved: u16,
-    sums: &[i64],
-    flags: [bool; 8],
-    kept: &[u8],
-) -> bool
-    requires { ⌜ Testable h (now t) (now sums) (now kept) ⌝ }
-    ensures { λ r. ⌜ r ≡ runningOk h (now (t .entry)) page line seen saved (now (sums .entry)) flags (now (kept .entry)) ⌝ }
+fn running_ok(t: &[u16], h: Head, s: State) -> bool
+    requires { ⌜ Testable h (now t) ⌝ }
+    ensures { λ r. ⌜ r ≡ runningOk h (now (t .entry)) s ⌝ }
 {
-    ranges_ok(h, page, line, saved, sums)
-        & line_ok(h, line, seen)
-        & saved_ok(h, line, seen, saved)
-        & beyond_ok(t, h, sums, flags)
-        & kept_ok(t, h, kept)
+    let flags = s.flags;
+    ranges_ok(h, s.page, s.line, s.saved, &s.sums)
+        & line_ok(h, s.line, s.seen)
+        & saved_ok(h, s.line, s.seen, s.saved)
+        & beyond_ok(t, h, &s.sums, flags)
+        & kept_ok(t, h, &s.kept)
 }
 
 // Whether a state keeps its rules. Only the test of its phase is worked out.
-pub fn state_ok<'a>(
-    t: &[u16],
-    h: Head,
-    phase: u8,
-    page: u32,
-    line: u16,
-    seen: bool,
-    saved: u16,
-    sums: &'a [i64],
-    flags: [bool; 8],
-    kept: &'a [u8],
-) -> bool
-    requires { ⌜ Testable h (now t) (now sums) (now kept) ⌝ }
-    ensures { λ r. ⌜ r ≡ stateOk h (now (t .entry)) phase page line seen saved (now (sums .entry)) flags (now (kept .entry)) ⌝ }
+pub fn state_ok(t: &[u16], h: Head, s: State) -> bool
+    requires { ⌜ Testable h (now t) ⌝ }
+    ensures { λ r. ⌜ r ≡ stateOk h (now (t .entry)) s ⌝ }
 {
-    if phase == IDLE {
-        return ranges_ok(h, page, line, saved, sums);
+    let phase = s.phase;
+    if phase == State::IDLE {
+        return ranges_ok(h, s.page, s.line, s.saved, &s.sums);
     }
-    if phase == STARTED {
-        return fresh_ok(page, line, seen, saved, sums, flags, kept);
+    if phase == State::STARTED {
+        return fresh_ok(s);
     }
-    if phase == RUNNING {
-        return running_ok(t, h, page, line, seen, saved, sums, flags, kept);
+    if phase == State::RUNNING {
+        return running_ok(t, h, s);
     }
     false
 }
 
 // A record as it is kept: its bytes, then zeros.
-pub fn padded(row: &[u8]) -> [u8; 256]
-    requires { ⌜ length (now row) ≤ 256 ⌝ }
+pub fn padded(row: &[u8]) -> [u8; KEPT_SIZE]
+    requires { ⌜ length (now row) ≤ keptSize ⌝ }
     ensures { λ r. ⌜ r ≡ paddedRow (now (row .entry)) ⌝ }
 {
-    let mut kept = [0u8; 256];
+    let mut kept = [0u8; KEPT_SIZE];
     splice::copy(row, row.len(), 0, &mut kept);
     kept
 }
 
 // The indicate flags of `n` details, set.
-pub fn flags_set(n: usize) -> [bool; 8]
+pub fn flags_set(n: usize) -> [bool; FLAG_COUNT]
     ensures { λ r. ⌜ r ≡ flagsSet n ⌝ }
 {
     [0 < n, 1 < n, 2 < n, 3 < n, 4 < n, 5 < n, 6 < n, 7 < n]

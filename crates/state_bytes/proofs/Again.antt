@@ -23,7 +23,7 @@ use Rattle.file.specs.Number.{num}
 use Rattle.number.specs.Value.{limit}
 use Rattle.rows.proofs.Searches.{all-intro}
 use Rattle.sums.specs.Sums.{sumOk, sumsOk}
-use Rattle.report.specs.declared.Report.{Report}
+use Rattle.state.specs.declared.State.{State}
 use Rattle.state_bytes.specs.Numbers.{bytes2, bytes4, bytes8, bits, number4, number8, ofBits}
 use Rattle.state_bytes.specs.Bytes.{flagBytes, sumBytes, headBytes, bytesOf, flagsPlain, flagAt, phaseOf, stateOf}
 use Rattle.state_bytes.specs.Facts.{InBytes}
@@ -81,7 +81,7 @@ bit-plain true = refl
 bit-plain false = refl
 
 -- ---- the state
-module _ (s : Report) (h : InBytes s) where
+module _ (s : State) (h : InBytes s) where
   abbrev flags-bytes : List ℕ
   flags-bytes = flagBytes (s .flags) ++ (sumBytes (s .sums) ++ s .kept)
 
@@ -153,7 +153,7 @@ fits : (z : ℤ) → natAbs z ≤ limit → SFits w64 z
 fits (pos n) l = record { sfits = omega arith }
 fits (negsuc n) l = record { sfits = omega arith }
 
-pub in-bytes : (s : Report) → length (s .sums) ≡ 32 → length (s .flags) ≡ 8 → sumsOk (s .sums) ≡ true → InBytes s
+pub in-bytes : (s : State) → length (s .sums) ≡ 32 → length (s .flags) ≡ 8 → sumsOk (s .sums) ≡ true → InBytes s
 unfolding sumsOk
 in-bytes s m f e = record {
   sumsLong = m;

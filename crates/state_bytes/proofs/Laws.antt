@@ -21,7 +21,7 @@ use Rattle.splice.proofs.Going.{Going, going-start, going-step, going-last}
 use Rattle.counts.specs.Below.{bit, listBelow}
 use Rattle.file.specs.Number.{num}
 use Rattle.state.specs.Kept.{paddedRow}
-use Rattle.report.specs.declared.Report.{Report}
+use Rattle.state.specs.declared.State.{State}
 use Rattle.state_bytes.specs.Numbers.{bytes2, bytes4, bytes8, bits, number4, number8, ofBits}
 use Rattle.state_bytes.specs.Bytes.{flagBytes, sumBytes, headBytes, bytesOf, flagAt, phaseOf, stateOf}
 
@@ -45,7 +45,7 @@ pub length-bytes8 : (x : ℕ) → length (bytes8 x) ≡ 8
 unfolding bytes8 bytes4
 length-bytes8 x = refl
 
-pub length-head : (s : Report) → length (headBytes s) ≡ 10
+pub length-head : (s : State) → length (headBytes s) ≡ 10
 unfolding headBytes bytes4
 length-head s = refl
 
@@ -95,7 +95,7 @@ unfolding ofBits
 high-bits x h = rw (le-ltb x 9223372036854775808 h) refl
 
 -- ---- the state, part behind part
-module _ (s : Report) (old : List ℕ) where
+module _ (s : State) (old : List ℕ) where
   pub head-going : {o1 o2 o3 : List ℕ} → 530 ≤ length old → o1 ≡ splice old 0 (bytes4 (s .page)) → o2 ≡ splice o1 4 (bytes2 (s .line)) → o3 ≡ splice o2 6 (bytes2 (s .saved))
       → Going old 0 (headBytes s) o3 8 (s .phase ∷ bit (s .seen) ∷ [])
   unfolding headBytes

@@ -7,8 +7,13 @@ use lib.IntN.{ℤ}
 use lib.ListN.{getD, drop}
 use Rattle.counts.specs.Below.{bit, allBelow, listBelow}
 use Rattle.file.specs.Number.{num}
-use Rattle.report.specs.declared.Report.{Report}
+use Rattle.state.specs.declared.State.{State}
+use Rattle.state.specs.State.{sumCount, flagCount}
 use Rattle.state_bytes.specs.Numbers.{bytes2, bytes4, bytes8, bits, number4, number8, ofBits}
+
+-- the bytes of a state
+abbrev pub stateSize : ℕ
+stateSize = 530
 
 -- ---- written
 unfoldable pub flagBytes : List Bool → List ℕ
@@ -19,10 +24,10 @@ unfoldable pub sumBytes : List ℤ → List ℕ
 sumBytes [] = []
 sumBytes (z ∷ zs) = bytes8 (bits z) ++ sumBytes zs
 
-unfoldable pub headBytes : Report → List ℕ
+unfoldable pub headBytes : State → List ℕ
 headBytes s = bytes4 (s .page) ++ (bytes2 (s .line) ++ (bytes2 (s .saved) ++ (s .phase ∷ bit (s .seen) ∷ [])))
 
-unfoldable pub bytesOf : Report → List ℕ
+unfoldable pub bytesOf : State → List ℕ
 bytesOf s = headBytes s ++ (flagBytes (s .flags) ++ (sumBytes (s .sums) ++ s .kept))
 
 -- ---- read
@@ -40,14 +45,14 @@ noPhase = 3
 abbrev pub phaseOf : List ℕ → ℕ
 phaseOf b = cond (flagsPlain b) (getD b 8 0) noPhase
 
-unfoldable pub stateOf : List ℕ → Report
+unfoldable pub stateOf : List ℕ → State
 stateOf b = record {
   phase = phaseOf b;
   page = number4 b 0;
   line = num b 4;
   seen = flagAt b 9;
   saved = num b 6;
-  sums = listBelow 32 (λ i. ofBits (number8 b (18 + 8 * i)));
-  flags = listBelow 8 (λ i. flagAt b (10 + i));
+  sums = listBelow sumCount (λ i. ofBits (number8 b (18 + 8 * i)));
+  flags = listBelow flagCount (λ i. flagAt b (10 + i));
   kept = drop 274 b;
 }

@@ -5,9 +5,9 @@ use lib.IntN.{pos}
 use lib.ListN.{length, getD}
 use mir.Syntax.{w64}
 use mir.Val.{SFits}
-use Rattle.report.specs.declared.Report.{Report}
+use Rattle.state.specs.declared.State.{State}
 
-pub record InBytes (s : Report) : Type 0 where
+pub record InBytes (s : State) : Type 0 where
   pub sumsLong : length (s .sums) ≡ 32
   pub flagsLong : length (s .flags) ≡ 8
   pub sumsFit : (i : ℕ) → i < 32 → SFits w64 (getD (s .sums) i (pos 0))

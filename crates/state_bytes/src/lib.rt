@@ -5,9 +5,13 @@ ghost use lib.ListN.{length, drop};
 ghost use Rattle.counts.specs.Below.{listBelow};
 ghost use Rattle.file.specs.Number.{num};
 ghost use Rattle.splice.specs.Splice.{splice};
+ghost use Rattle.state.specs.State.{sumCount, flagCount};
 ghost use Rattle.state_bytes.specs.Numbers.{bytes2, bytes4, bytes8, bits, number4 as number4Spec, number8 as number8Spec, ofBits};
-ghost use Rattle.state_bytes.specs.Bytes.{flagBytes, sumBytes, headBytes, bytesOf, flagsPlain, flagAt, phaseOf, stateOf};
-use report::Report;
+ghost use Rattle.state_bytes.specs.Bytes.{stateSize, flagBytes, sumBytes, headBytes, bytesOf, flagsPlain, flagAt, phaseOf, stateOf};
+use state::State;
+
+// The bytes of a state.
+pub const STATE_SIZE: usize = 530;
 
 // A phase that no state has.
 const NO_PHASE: u8 = 3;
@@ -75,18 +79,18 @@ fn put8(x: usize, at: usize, out: &mut [u8])
 
 // ---- flags
 fn put_flags(flags: &[bool], at: usize, out: &mut [u8])
-    requires { ⌜ (length (now flags) ≡ 8) × (at + 8 ≤ length (now out)) ⌝ }
+    requires { ⌜ (length (now flags) ≡ flagCount) × (at + 8 ≤ length (now out)) ⌝ }
     ensures { λ _. ⌜ now (out .exit) ≡ splice (now (out .entry)) at (flagBytes (now (flags .entry))) ⌝ }
 {
     let mut i = 0;
-    while i < 8 {
+    while i < state::FLAG_COUNT {
         out[at + i] = counts::one_if(flags[i]) as u8;
         i += 1;
     }
 }
 
 fn flags_plain(b: &[u8]) -> bool
-    requires { ⌜ length (now b) ≡ 530 ⌝ }
+    requires { ⌜ length (now b) ≡ stateSize ⌝ }
     ensures { λ r. ⌜ r ≡ flagsPlain (now (b .entry)) ⌝ }
 {
     let mut ok = true;
@@ -99,13 +103,13 @@ fn flags_plain(b: &[u8]) -> bool
     ok
 }
 
-fn flags_of(b: &[u8]) -> [bool; 8]
-    requires { ⌜ length (now b) ≡ 530 ⌝ }
-    ensures { λ r. ⌜ r ≡ listBelow 8 (λ i. flagAt (now (b .entry)) (10 + i)) ⌝ }
+fn flags_of(b: &[u8]) -> [bool; state::FLAG_COUNT]
+    requires { ⌜ length (now b) ≡ stateSize ⌝ }
+    ensures { λ r. ⌜ r ≡ listBelow flagCount (λ i. flagAt (now (b .entry)) (10 + i)) ⌝ }
 {
-    let mut flags = [false; 8];
+    let mut flags = [false; state::FLAG_COUNT];
     let mut i = 0;
-    while i < 8 {
+    while i < state::FLAG_COUNT {
         flags[i] = b[10 + i] == 1;
         i += 1;
     }
@@ -114,23 +118,23 @@ fn flags_of(b: &[u8]) -> [bool; 8]
 
 // ---- sums
 fn put_sums(sums: &[i64], at: usize, out: &mut [u8])
-    requires { ⌜ (length (now sums) ≡ 32) × (at + 256 ≤ length (now out)) ⌝ }
+    requires { ⌜ (length (now sums) ≡ sumCount) × (at + 256 ≤ length (now out)) ⌝ }
     ensures { λ _. ⌜ now (out .exit) ≡ splice (now (out .entry)) at (sumBytes (now (sums .entry))) ⌝ }
 {
     let mut i = 0;
-    while i < 32 {
+    while i < state::SUM_COUNT {
         put8(bits_of(sums[i]), at + 8 * i, out);
         i += 1;
     }
 }
 
-fn sums_of(b: &[u8]) -> [i64; 32]
-    requires { ⌜ length (now b) ≡ 530 ⌝ }
-    ensures { λ r. ⌜ r ≡ listBelow 32 (λ i. ofBits (number8Spec (now (b .entry)) (18 + 8 * i))) ⌝ }
+fn sums_of(b: &[u8]) -> [i64; state::SUM_COUNT]
+    requires { ⌜ length (now b) ≡ stateSize ⌝ }
+    ensures { λ r. ⌜ r ≡ listBelow sumCount (λ i. ofBits (number8Spec (now (b .entry)) (18 + 8 * i))) ⌝ }
 {
-    let mut sums = [0i64; 32];
+    let mut sums = [0i64; state::SUM_COUNT];
     let mut i = 0;
-    while i < 32 {
+    while i < state::SUM_COUNT {
         sums[i] = of_bits(number8(b, 18 + 8 * i));
         i += 1;
     }
@@ -138,8 +142,8 @@ fn sums_of(b: &[u8]) -> [i64; 32]
 }
 
 // ---- the state
-fn put_head(s: Report, out: &mut [u8])
-    requires { ⌜ 530 ≤ length (now out) ⌝ }
+fn put_head(s: State, out: &mut [u8])
+    requires { ⌜ stateSize ≤ length (now out) ⌝ }
     ensures { λ _. ⌜ now (out .exit) ≡ splice (now (out .entry)) 0 (headBytes s) ⌝ }
 {
     put4(s.page as usize, 0, out);
@@ -149,8 +153,8 @@ fn put_head(s: Report, out: &mut [u8])
     out[9] = counts::one_if(s.seen) as u8;
 }
 
-pub fn encode(s: Report, out: &mut [u8])
-    requires { ⌜ length (now out) ≡ 530 ⌝ }
+pub fn encode(s: State, out: &mut [u8])
+    requires { ⌜ length (now out) ≡ stateSize ⌝ }
     ensures { λ _. ⌜ now (out .exit) ≡ bytesOf s ⌝ }
 {
     let flags = s.flags;
@@ -159,25 +163,25 @@ pub fn encode(s: Report, out: &mut [u8])
     put_head(s, out);
     put_flags(&flags, 10, out);
     put_sums(&sums, 18, out);
-    splice::copy(&kept, 256, 274, out);
+    splice::copy(&kept, state::KEPT_SIZE, 274, out);
 }
 
 fn phase_of(b: &[u8]) -> u8
-    requires { ⌜ length (now b) ≡ 530 ⌝ }
+    requires { ⌜ length (now b) ≡ stateSize ⌝ }
     ensures { λ r. ⌜ r ≡ phaseOf (now (b .entry)) ⌝ }
 {
     if flags_plain(b) { b[8] } else { NO_PHASE }
 }
 
-pub fn decode(b: &[u8]) -> Report
-    requires { ⌜ length (now b) ≡ 530 ⌝ }
+pub fn decode(b: &[u8]) -> State
+    requires { ⌜ length (now b) ≡ stateSize ⌝ }
     ensures { λ r. ⌜ r ≡ stateOf (now (b .entry)) ⌝ }
 {
     let phase = phase_of(b);
     let sums = sums_of(b);
     let flags = flags_of(b);
     let kept = state::padded(&b[274..]);
-    Report {
+    State {
         phase,
         page: number4(b, 0) as u32,
         line: file::num_at(b, 4) as u16,

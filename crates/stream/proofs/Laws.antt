@@ -22,15 +22,17 @@ use Rattle.pages.specs.declared.Outcome.the-variants.{Done, PageLimit, NoRoom}
 use Rattle.pages.specs.Outcome.{pastLast, tooShort, outcome, written}
 use Rattle.pages.specs.Bytes.{dueBytes, byteCount}
 use Rattle.splice.specs.Splice.{splice}
-use Rattle.report.specs.declared.Report.{Report}
-use Rattle.report.specs.declared.Verdict.{Verdict}
-use Rattle.report.specs.declared.Verdict.the-variants.{Accepted, Description, State, Phase, Detail, Length, Field, Sum, Pages, Room}
-use Rattle.report.specs.declared.Tried.{Tried}
-use Rattle.report.specs.declared.Tried.the-variants.{Passed, Refused}
-use Rattle.report.specs.Verdict.{number, accepted}
-use Rattle.report.specs.declared.Answer.{Answer}
-use Rattle.report.specs.Result.{Result, Returns, Work, refuse, answered, moved, settled}
-use Rattle.report.specs.Calls.{rowWork, rowTried, unless, ifAccepted, generatedOn, generate}
+use Rattle.state.specs.declared.State.{State}
+use Rattle.refusals.specs.declared.Verdict.{Verdict}
+use Rattle.refusals.specs.declared.Verdict.the-variants.{Accepted, Description, State as BrokenState, Phase, Detail, Length, Field, Sum, Pages, Room}
+use Rattle.refusals.specs.declared.Tried.{Tried}
+use Rattle.refusals.specs.declared.Tried.the-variants.{Passed, Refused}
+use Rattle.refusals.specs.Verdict.{number, accepted}
+use Rattle.calls.specs.declared.Answer.{Answer}
+use Rattle.calls.specs.Result.{Result, Returns, Work, refuse, answered, moved, settled}
+use Rattle.refusals.specs.Stages.{rowTried}
+use Rattle.calls.specs.Calls.{rowWork, unless, callOn}
+use Rattle.report.specs.Calls.{ifAccepted, call, generate}
 use Rattle.stream.specs.Run.{Ran, further, halted, after, next, goes, ran, begun, generateAll}
 
 and-false : (a b : Bool) → (a && b && false) ≡ false
@@ -42,7 +44,7 @@ and-false false b = refl
 pub accepted-is : (v : Verdict) → number v ≡ 0 → v ≡ Accepted
 accepted-is Accepted e = refl
 accepted-is (Description k) e = absurd (omega arith)
-accepted-is State e = absurd (omega arith)
+accepted-is BrokenState e = absurd (omega arith)
 accepted-is Phase e = absurd (omega arith)
 accepted-is Detail e = absurd (omega arith)
 accepted-is Length e = absurd (omega arith)
@@ -56,33 +58,33 @@ pub record Fits (o : List ℕ) (y : Result) : Type 0 where
   pub room : y .answer .count ≤ length o
   pub untouched : accepted (y .answer .verdict) ≡ false → y .out ≡ o
 
-refuse-fits : (s : Report) (o : List ℕ) (v : Verdict) → Fits o (refuse s o v)
+refuse-fits : (s : State) (o : List ℕ) (v : Verdict) → Fits o (refuse s o v)
 refuse-fits s o v = record { room = omega arith; untouched = λ e. refl }
 
-settle-fits : (ok past short : Bool) (s : Report) (to : Pos) (then : Pos → Report) (o new : List ℕ) (n : ℕ) → ltb (length o) n ≡ short
+settle-fits : (ok past short : Bool) (s : State) (to : Pos) (then : Pos → State) (o new : List ℕ) (n : ℕ) → ltb (length o) n ≡ short
     → Fits o (cond ok (record { answer = answered s then (cond past PageLimit (cond short NoRoom (Done n to))); out = cond past o (cond short o new) }) (refuse s o Sum))
 settle-fits false past short s to then o new n e = refuse-fits s o Sum
 settle-fits true true short s to then o new n e = refuse-fits s o Pages
 settle-fits true false true s to then o new n e = refuse-fits s o Room
 settle-fits true false false s to then o new n e = record { room = ltb-false (length o) n e; untouched = λ q. absurd (true≢false q) }
 
-settled-fits : (h : Head) (t : List ℕ) (s : Report) (w : Work) (o : List ℕ) → Fits o (settled h t s w o)
+settled-fits : (h : Head) (t : List ℕ) (s : State) (w : Work) (o : List ℕ) → Fits o (settled h t s w o)
 unfolding settled outcome written
 settled-fits h t s w o =
     settle-fits (w .ok) (pastLast (w .laid)) (tooShort h t (length o) (w .laid)) s (w .laid .to) (moved w) o (splice o 0 (dueBytes h t (w .inputs) (w .laid .dues)))
     (byteCount h t (w .laid .dues))
     refl
 
-unless-fits : (s : Report) (o : List ℕ) (r : Result) (t : Tried) → Fits o r → Fits o (unless s o r t)
+unless-fits : (s : State) (o : List ℕ) (r : Result) (t : Tried) → Fits o r → Fits o (unless s o r t)
 unless-fits s o r Passed f = f
 unless-fits s o r (Refused v) f = refuse-fits s o v
 
-accepted-fits : (k : Checked) (s : Report) (o : List ℕ) (r : Result) → Fits o r → Fits o (ifAccepted k s o r)
+accepted-fits : (k : Checked) (s : State) (o : List ℕ) (r : Result) → Fits o r → Fits o (ifAccepted k s o r)
 accepted-fits checked.Accepted s o r f = f
 accepted-fits (checked.Broken n) s o r f = refuse-fits s o (Description n)
 
-pub generate-fits : (d : List ℕ) (s : Report) (i : ℕ) (row o : List ℕ) → Fits o (generate d s i row o)
-unfolding generate generatedOn
+pub generate-fits : (d : List ℕ) (s : State) (i : ℕ) (row o : List ℕ) → Fits o (generate d s i row o)
+unfolding call callOn
 generate-fits d s i row o =
     let h = headOf d in
     let t = table d in
@@ -96,7 +98,7 @@ module _ (d rows : List ℕ) (size : ℕ) where
     pub enough : length rows ≤ x .run .done + fuel
     pub same : ran d rows size fuel x ≡ goal
 
-  pub reach-start : (s : Report) (out : List ℕ) → Reaches (begun s out) (generateAll d rows size s out)
+  pub reach-start : (s : State) (out : List ℕ) → Reaches (begun s out) (generateAll d rows size s out)
   unfolding generateAll
   reach-start s out = record { fuel = length rows; enough = omega arith; same = refl }
 
@@ -136,10 +138,10 @@ module _ (d rows : List ℕ) (size : ℕ) where
   reach-halt x goal y r v l m q s = halts x goal y (r .fuel) (r .enough) (r .same) (goes-on x v l m) l m q (rw s refl)
 
 -- ---- the values of the loop
-abbrev pub here : ℕ → ℕ → Verdict → Report → List ℕ → Ran
-here k at v s out = record { run = record { done = k; count = at; verdict = v; report = s }; out = out }
+abbrev pub here : ℕ → ℕ → Verdict → State → List ℕ → Ran
+here k at v s out = record { run = record { done = k; count = at; verdict = v; state = s }; out = out }
 
-pub nothing : (d rows : List ℕ) (size : ℕ) (s : Report) (out : List ℕ) → size ≡ 0 → begun s out ≡ generateAll d rows size s out
+pub nothing : (d rows : List ℕ) (size : ℕ) (s : State) (out : List ℕ) → size ≡ 0 → begun s out ≡ generateAll d rows size s out
 unfolding generateAll
 nothing d rows size s out e = sym (stays d rows size (begun s out) (length rows) (rw e refl))
 
@@ -147,7 +149,7 @@ pub none-left : (rows : List ℕ) (size : ℕ) (x : Ran) → length rows < x .ru
 none-left rows size x l = rw (lt-leb (x .run .done + size) (length rows) l) (and-false (accepted (x .run .verdict)) (leb 1 size))
 
 -- what is written fits in what is left
-pub room-left : (d : List ℕ) (s : Report) (i : ℕ) (row o : List ℕ) {a : Answer} {tail : List ℕ} → Returns (generate d s i row o) a tail → a .count ≤ length o
+pub room-left : (d : List ℕ) (s : State) (i : ℕ) (row o : List ℕ) {a : Answer} {tail : List ℕ} → Returns (generate d s i row o) a tail → a .count ≤ length o
 room-left d s i row o r = rw (r .answerIs) (generate-fits d s i row o .room)
 
 -- the output with its end put back
@@ -164,21 +166,21 @@ whole-end at out l =
 choose : (ok : Bool) (size : ℕ) (x : Ran) (y : Result) → accepted (y .answer .verdict) ≡ ok → cond ok (further size x y) (halted x y) ≡ after size x y
 choose ok size x y e = rw e refl
 
-module _ (d rows : List ℕ) (size : ℕ) (x : Ran) (row o full : List ℕ) {a : Answer} {tail : List ℕ} (r : Returns (generate d (x .run .report) 0 row o) a tail)
+module _ (d rows : List ℕ) (size : ℕ) (x : Ran) (row o full : List ℕ) {a : Answer} {tail : List ℕ} (r : Returns (generate d (x .run .state) 0 row o) a tail)
     (e : row ≡ take size (drop (x .run .done) rows)) (f : o ≡ drop (x .run .count) (x .out)) (g : full ≡ take (x .run .count) (x .out) ++ tail) where
-  pub next-accepted : number (a .verdict) ≡ 0 → here (x .run .done + size) (x .run .count + a .count) (a .verdict) (a .report) full ≡ next d rows size x
+  pub next-accepted : number (a .verdict) ≡ 0 → here (x .run .done + size) (x .run .count + a .count) (a .verdict) (a .state) full ≡ next d rows size x
   unfolding next
   next-accepted n =
-      let y = generate d (x .run .report) 0 row o in
+      let y = generate d (x .run .state) 0 row o in
       let q : number (y .answer .verdict) ≡ 0 = rw (r .answerIs) at n in
       rw (accepted-is (a .verdict) n, g, r .outIs, r .answerIs) (choose true size x y (eq-eqb (number (y .answer .verdict)) 0 q))
-      ∙ ap (after size x) (ap (λ (o′ : List ℕ). generate d (x .run .report) 0 row o′) f ∙ ap (λ (row′ : List ℕ). generate d (x .run .report) 0 row′ (drop (x .run .count) (x .out))) e)
+      ∙ ap (after size x) (ap (λ (o′ : List ℕ). generate d (x .run .state) 0 row o′) f ∙ ap (λ (row′ : List ℕ). generate d (x .run .state) 0 row′ (drop (x .run .count) (x .out))) e)
 
-  pub next-refused : (number (a .verdict) ≡ 0 → ⊥) → here (x .run .done) (x .run .count) (a .verdict) (x .run .report) full ≡ next d rows size x
+  pub next-refused : (number (a .verdict) ≡ 0 → ⊥) → here (x .run .done) (x .run .count) (a .verdict) (x .run .state) full ≡ next d rows size x
   unfolding next
   next-refused n =
-      let y = generate d (x .run .report) 0 row o in
+      let y = generate d (x .run .state) 0 row o in
       let q = ne-eqb (number (y .answer .verdict)) 0 (λ z. n (rw (r .answerIs) z)) in
-      let w : full ≡ x .out = g ∙ ap (λ (l : List ℕ). take (x .run .count) (x .out) ++ l) (r .outIs ∙ generate-fits d (x .run .report) 0 row o .untouched q ∙ f) ∙ take-append-drop (x .run .count) (x .out) in
+      let w : full ≡ x .out = g ∙ ap (λ (l : List ℕ). take (x .run .count) (x .out) ++ l) (r .outIs ∙ generate-fits d (x .run .state) 0 row o .untouched q ∙ f) ∙ take-append-drop (x .run .count) (x .out) in
       rw (w, r .answerIs) (choose false size x y q)
-      ∙ ap (after size x) (ap (λ (o′ : List ℕ). generate d (x .run .report) 0 row o′) f ∙ ap (λ (row′ : List ℕ). generate d (x .run .report) 0 row′ (drop (x .run .count) (x .out))) e)
+      ∙ ap (after size x) (ap (λ (o′ : List ℕ). generate d (x .run .state) 0 row o′) f ∙ ap (λ (row′ : List ℕ). generate d (x .run .state) 0 row′ (drop (x .run .count) (x .out))) e)

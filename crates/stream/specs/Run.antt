@@ -5,10 +5,10 @@ use mathlib.Core.Bool.{Bool, cond, _&&_}
 use mathlib.Core.List.{List, _++_}
 use lib.Dec.{leb}
 use lib.ListN.{length, take, drop}
-use Rattle.report.specs.declared.Report.{Report}
-use Rattle.report.specs.declared.Verdict.the-variants.{Accepted}
-use Rattle.report.specs.Verdict.{accepted}
-use Rattle.report.specs.Result.{Result}
+use Rattle.state.specs.declared.State.{State}
+use Rattle.refusals.specs.declared.Verdict.the-variants.{Accepted}
+use Rattle.refusals.specs.Verdict.{accepted}
+use Rattle.calls.specs.Result.{Result}
 use Rattle.report.specs.Calls.{generate}
 use Rattle.stream.specs.declared.Run.{Run}
 
@@ -20,14 +20,14 @@ pub record Ran : Type 0 where
 -- a record accepted: its lines stand behind those before it
 abbrev pub further : ℕ → Ran → Result → Ran
 further size x y = record {
-  run = record { done = x .run .done + size; count = x .run .count + y .answer .count; verdict = Accepted; report = y .answer .report };
+  run = record { done = x .run .done + size; count = x .run .count + y .answer .count; verdict = Accepted; state = y .answer .state };
   out = take (x .run .count) (x .out) ++ y .out;
 }
 
 -- a record refused: all stays but the verdict
 abbrev pub halted : Ran → Result → Ran
 halted x y = record {
-  run = record { done = x .run .done; count = x .run .count; verdict = y .answer .verdict; report = x .run .report };
+  run = record { done = x .run .done; count = x .run .count; verdict = y .answer .verdict; state = x .run .state };
   out = x .out;
 }
 
@@ -36,7 +36,7 @@ after size x y = cond (accepted (y .answer .verdict)) (further size x y) (halted
 
 -- the next record
 unfoldable pub next : List ℕ → List ℕ → ℕ → Ran → Ran
-next d rows size x = after size x (generate d (x .run .report) 0 (take size (drop (x .run .done) rows)) (drop (x .run .count) (x .out)))
+next d rows size x = after size x (generate d (x .run .state) 0 (take size (drop (x .run .done) rows)) (drop (x .run .count) (x .out)))
 
 -- nothing is refused yet, and a whole record is left
 abbrev pub goes : List ℕ → ℕ → Ran → Bool
@@ -47,11 +47,11 @@ unfoldable pub ran : List ℕ → List ℕ → ℕ → ℕ → Ran → Ran
 ran d rows size zero x = x
 ran d rows size (suc n) x = cond (goes rows size x) (ran d rows size n (next d rows size x)) x
 
-abbrev pub begun : Report → List ℕ → Ran
-begun s out = record { run = record { done = 0; count = 0; verdict = Accepted; report = s }; out = out }
+abbrev pub begun : State → List ℕ → Ran
+begun s out = record { run = record { done = 0; count = 0; verdict = Accepted; state = s }; out = out }
 
 -- "all rows as detail 0": no more records than bytes, since a record has at least one
-unfoldable pub generateAll : List ℕ → List ℕ → ℕ → Report → List ℕ → Ran
+unfoldable pub generateAll : List ℕ → List ℕ → ℕ → State → List ℕ → Ran
 generateAll d rows size s out = ran d rows size (length rows) (begun s out)
 
 -- what the call returns and leaves; the bytes it speaks of are inside

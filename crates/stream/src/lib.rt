@@ -3,23 +3,24 @@ ghost use Prim.Native.Nat.{_+_, _≤_};
 ghost use mathlib.Core.Path.{_≡_};
 ghost use lib.ListN.{length, drop};
 ghost use Rattle.stream.specs.Run.{generateAll, Comes};
-use report::Report;
-use report::Verdict;
+use calls::Asked;
+use refusals::Verdict;
+use state::State;
 
 // How far it came: record bytes done, output bytes written, what stopped it (acceptance: nothing) and the state.
 pub struct Run {
     pub done: usize,
     pub count: usize,
     pub verdict: Verdict,
-    pub report: Report,
+    pub state: State,
 }
 
 // Every whole record, until one is refused; each into what is left of the output.
-pub fn generate_all(d: &[u8], rows: &[u8], size: usize, s: Report, out: &mut [u8]) -> Run
+pub fn generate_all(d: &[u8], rows: &[u8], size: usize, s: State, out: &mut [u8]) -> Run
     ensures { λ r. ⌜ Comes (generateAll (now (d .entry)) (now (rows .entry)) size s (now (out .entry))) r (now (out .exit)) (now (rows .entry)) ⌝ }
 {
     let n = rows.len();
-    let mut report = s;
+    let mut state = s;
     let mut k = 0;
     let mut at = 0;
     let mut verdict = Verdict::Accepted;
@@ -28,17 +29,23 @@ pub fn generate_all(d: &[u8], rows: &[u8], size: usize, s: Report, out: &mut [u8
             done: k,
             count: at,
             verdict,
-            report,
+            state,
         };
     }
     while size <= n - k {
-        let a = report.generate(d, 0, &rows[k..k + size], &mut out[at..]);
+        let a = report::call(
+            state,
+            d,
+            Asked::Generate(0),
+            &rows[k..k + size],
+            &mut out[at..],
+        );
         verdict = a.verdict;
         if verdict.number() != 0 {
             break;
         }
-        let after = a.report;
-        report = after;
+        let after = a.state;
+        state = after;
         k += size;
         at += a.count;
     }
@@ -46,6 +53,6 @@ pub fn generate_all(d: &[u8], rows: &[u8], size: usize, s: Report, out: &mut [u8
         done: k,
         count: at,
         verdict,
-        report,
+        state,
     }
 }

@@ -9,11 +9,11 @@ use Rattle.sheet.proofs.run_part.Statement.{statement}
 use Rattle.sheet.proofs.run_part.Tie as tie
 
 abbrev Inv-loop : tie.InvT-loop
-Inv-loop d rows size out₀ n room report₀ at₀ done₀ k₀ verdict₀ written₀ turns₀ out report at done k verdict written turns =
+Inv-loop d rows size out₀ n room state₀ at₀ done₀ k₀ verdict₀ written₀ turns₀ out state at done k verdict written turns =
     (k ≤ n) × (at ≤ room) × (n ≡ length rows) × (room ≡ length out₀) × (length out ≡ length out₀) × (1 ≤ size) × (n < 2 ^ 64) × (room < 2 ^ 64)
 
 abbrev μ-loop : tie.MeasureT-loop
-μ-loop d rows size out₀ n room report₀ at₀ done₀ k₀ verdict₀ written₀ turns₀ out report at done k verdict written turns = turns
+μ-loop d rows size out₀ n room state₀ at₀ done₀ k₀ verdict₀ written₀ turns₀ out state at done k verdict written turns = turns
 
 loop-holds : tie.Need-loop-holds Inv-loop μ-loop
 loop-holds c = omega arith

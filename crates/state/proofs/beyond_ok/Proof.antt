@@ -10,5 +10,4 @@ unfolding beyondOk
 returns c = rw (c .zero-flags .ensures, c .before .details-of .ensures .is, c .before .before .zero-sums .ensures, c .before .before .before .wide .ensures .is)
 
 pub beyond-ok-spec : {M : Type 1} → statement M
-beyond-ok-spec =
-    tie.close (tie.spec (λ c κs. search needs) (λ c κs. search needs) (λ c κs. search needs) (λ c κs. search needs) returns)
+beyond-ok-spec = tie.close (tie.spec (λ c κs. search needs) (λ c κs. search needs) (λ c κs. search needs) (λ c κs. search needs) returns)

@@ -7,8 +7,7 @@ use Rattle.state.proofs.fresh_ok.Tie as tie
 
 returns : tie.Need-returns
 unfolding freshOk
-returns c = rw (c .zero-bytes .ensures, c .before .zero-flags .ensures, c .before .before .zero-sums .ensures)
+returns c = rw (c .zero-bytes .ensures, c .before .before .before .before .zero-flags .ensures, c .before .before .before .before .before .zero-sums .ensures)
 
 pub fresh-ok-spec : {M : Type 1} → statement M
-fresh-ok-spec =
-    tie.close (tie.spec (λ c κs. search needs) (λ c κs. search needs) (λ c κs. search needs) returns)
+fresh-ok-spec = tie.close (tie.spec (λ c κs. search needs) (λ c κs. search needs) (λ c κs. search needs) returns)

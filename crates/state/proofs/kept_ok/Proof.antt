@@ -1,6 +1,5 @@
 -- `state::kept_ok` meets its contract: a record is well formed where no field is found malformed.
 -- Assumes nothing.
-use mathlib.Core.Path.{refl}
 use borrow.Author.Needs.{needs}
 use Rattle.state.specs.Rules.{keptOk}
 use Rattle.state.proofs.Laws.{formed-first}
@@ -11,8 +10,7 @@ returns : tie.Need-returns
 unfolding keptOk
 returns c =
     let f = c .before .before .before .first-malformed in
-    rw (c .before .before .wide .ensures .is, f .ensures .0, c .zero-bytes .ensures, c .before .wide2 .ensures .is, formed-first) refl
+    rw (c .before .before .wide .ensures .is, f .ensures .0, c .zero-bytes .ensures, c .before .wide2 .ensures .is, formed-first)
 
 pub kept-ok-spec : {M : Type 1} → statement M
-kept-ok-spec =
-    tie.close (tie.spec (λ c κs. search needs) (λ c κs. search needs) (λ c κs. search needs) (λ c κs. search needs) returns)
+kept-ok-spec = tie.close (tie.spec (λ c κs. search needs) (λ c κs. search needs) (λ c κs. search needs) (λ c κs. search needs) returns)

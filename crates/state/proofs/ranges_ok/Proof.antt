@@ -7,7 +7,7 @@ use Rattle.state.proofs.ranges_ok.Tie as tie
 
 returns : tie.Need-returns
 unfolding rangesOk
-returns c = rw (c .sums-ok .ensures)
+returns c = rw (c .sums-ok .ensures, c .before .before .is-page .ensures)
 
 pub ranges-ok-spec : {M : Type 1} → statement M
-ranges-ok-spec = tie.close (tie.spec (λ c κs. search needs) returns)
+ranges-ok-spec = tie.close (tie.spec (λ c κs. search needs) (λ c κs. search needs) returns)

@@ -9,7 +9,7 @@ use Rattle.state.proofs.state_ok.Tie as tie
 
 returns : tie.Need-returns
 unfolding stateOk
-returns c = rw (eq-eqb _ 0 (c .before .if1 .taken)) (c .ranges-ok .ensures)
+returns c = rw (eq-eqb _ 0 (c .before .before .before .before .if1 .taken)) (c .ranges-ok .ensures)
 
 returns-2 : tie.Need-returns-2
 unfolding stateOk

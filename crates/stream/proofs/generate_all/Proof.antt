@@ -8,22 +8,22 @@ use native.Mathlib.Omega.{arith}
 use borrow.Author.Needs.{needs}
 use borrow.Author.Tests.{ne-eqb}
 use lib.ListN.{length, length-drop}
-use Rattle.report.specs.declared.Report.{Report}
-use Rattle.report.specs.declared.Verdict.{Verdict}
-use Rattle.report.specs.declared.Verdict.the-variants.{Accepted}
-use Rattle.report.specs.Verdict.{number}
+use Rattle.state.specs.declared.State.{State}
+use Rattle.refusals.specs.declared.Verdict.{Verdict}
+use Rattle.refusals.specs.declared.Verdict.the-variants.{Accepted}
+use Rattle.refusals.specs.Verdict.{number}
 use Rattle.stream.specs.Run.{Ran, generateAll}
 use Rattle.stream.proofs.Laws.{here, Reaches, reach-start, reach-next, reach-halt, reach-end, none-left, nothing, room-left, put-end, whole-end, next-accepted, next-refused, accepted-is}
 use Rattle.stream.proofs.generate_all.Statement.{statement}
 use Rattle.stream.proofs.generate_all.Tie as tie
 
 abbrev Inv-loop : tie.InvT-loop
-Inv-loop d rows size out₀ n report₀ k₀ at₀ verdict₀ out report k at verdict =
+Inv-loop d rows size out₀ n state₀ k₀ at₀ verdict₀ out state k at verdict =
     (n ≡ length rows) × (k ≤ n) × (at ≤ length out) × (length out ≡ length out₀) × (n < 2 ^ 64) × (length out₀ < 2 ^ 64) × (1 ≤ size) × (verdict ≡ Accepted)
-    × Reaches d rows size (here k at verdict report out) (generateAll d rows size report₀ out₀)
+    × Reaches d rows size (here k at verdict state out) (generateAll d rows size state₀ out₀)
 
 abbrev μ-loop : tie.MeasureT-loop
-μ-loop d rows size out₀ n report₀ k₀ at₀ verdict₀ out report k at verdict = n - k
+μ-loop d rows size out₀ n state₀ k₀ at₀ verdict₀ out state k at verdict = n - k
 
 returns : tie.Need-returns Inv-loop μ-loop
 returns c =
@@ -39,29 +39,29 @@ loop-holds c =
 sub-loop : tie.Need-sub-loop Inv-loop μ-loop
 sub-loop c = omega arith
 
-add-generate : tie.Need-add-generate Inv-loop μ-loop
-add-generate c = omega arith
+add-call : tie.Need-add-call Inv-loop μ-loop
+add-call c = omega arith
 
-sub-generate : tie.Need-sub-generate Inv-loop μ-loop
-sub-generate c = omega arith
+sub-call : tie.Need-sub-call Inv-loop μ-loop
+sub-call c = omega arith
 
-part-generate-start : tie.Need-part-generate-start Inv-loop μ-loop
-part-generate-start c = omega arith
+part-call-start : tie.Need-part-call-start Inv-loop μ-loop
+part-call-start c = omega arith
 
-part-generate-end : tie.Need-part-generate-end Inv-loop μ-loop
-part-generate-end c = omega arith
+part-call-end : tie.Need-part-call-end Inv-loop μ-loop
+part-call-end c = omega arith
 
-sub-generate-2 : tie.Need-sub-generate-2 Inv-loop μ-loop
-sub-generate-2 c = omega arith
+sub-call-2 : tie.Need-sub-call-2 Inv-loop μ-loop
+sub-call-2 c = omega arith
 
-part-generate-start-2 : tie.Need-part-generate-start-2 Inv-loop μ-loop
-part-generate-start-2 c = omega arith
+part-call-start-2 : tie.Need-part-call-start-2 Inv-loop μ-loop
+part-call-start-2 c = omega arith
 
-part-generate-end-2 : tie.Need-part-generate-end-2 Inv-loop μ-loop
-part-generate-end-2 c = omega arith
+part-call-end-2 : tie.Need-part-call-end-2 Inv-loop μ-loop
+part-call-end-2 c = omega arith
 
-generate-requires : tie.Need-generate-requires Inv-loop μ-loop
-generate-requires c κs = search needs
+call-requires : tie.Need-call-requires Inv-loop μ-loop
+call-requires c κs = search needs
 
 number-requires : tie.Need-number-requires Inv-loop μ-loop
 number-requires c κs = search needs
@@ -72,7 +72,7 @@ add-k c = omega arith
 add-at : tie.Need-add-at Inv-loop μ-loop
 add-at c =
     let l = c .before .before .before .before .before .before .before .before .before .before .loop in
-    omega (arith, room-left _ _ _ _ _ (c .before .before .before .before .before .before .generate .ensures), ap length (whole-end (l .at) (l .out) (l .inv .2)), length-drop (l .at) (l .out))
+    omega (arith, room-left _ _ _ _ _ (c .before .before .before .before .before .before .call .ensures), ap length (whole-end (l .at) (l .out) (l .inv .2)), length-drop (l .at) (l .out))
 
 loop-less : tie.Need-loop-less Inv-loop μ-loop
 loop-less c = omega arith
@@ -81,8 +81,8 @@ loop-again : tie.Need-loop-again Inv-loop μ-loop
 loop-again c =
     let l = c .before .before .before .before .before .before .before .before .before .before .loop in
     let a = c .before .before .before .before .before .before .before .before .before .before .before .before .before .before .before .args in
-    let x = here (l .k) (l .at) (l .verdict) (l .report) (l .out) in
-    let r = c .before .before .before .before .before .before .generate .ensures in
+    let x = here (l .k) (l .at) (l .verdict) (l .state) (l .out) in
+    let r = c .before .before .before .before .before .before .call .ensures in
     let n = sym (c .before .before .before .number .ensures) ∙ c .before .before .if2 .left in
     let m : l .k + a .size - l .k ≡ a .size = omega arith in
     let w = whole-end (l .at) (l .out) (l .inv .2) in
@@ -96,7 +96,7 @@ returns-2 : tie.Need-returns-2 Inv-loop μ-loop
 returns-2 c =
     let l = c .before .loop in
     let a = c .before .before .before .before .before .before .args in
-    let x = here (l .k) (l .at) (l .verdict) (l .report) (l .out) in
+    let x = here (l .k) (l .at) (l .verdict) (l .state) (l .out) in
     let e = reach-end (a .d .now) (a .rows .now) (a .size) x _ (l .inv .8) (none-left (a .rows .now) (a .size) x (omega arith)) in
     record { runIs = ap (λ (y : Ran). y .run) e; outIs = ap (λ (y : Ran). y .out) e; inRows = omega arith; inOut = omega arith }
 
@@ -107,9 +107,9 @@ returns-3 : tie.Need-returns-3 Inv-loop μ-loop
 returns-3 c =
     let l = c .before .before .before .before .before .before .before .before .loop in
     let a = c .before .before .before .before .before .before .before .before .before .before .before .before .before .args in
-    let x = here (l .k) (l .at) (l .verdict) (l .report) (l .out) in
-    let r = c .before .before .before .before .generate .ensures in
-    let v = c .before .before .before .before .generate .result .verdict in
+    let x = here (l .k) (l .at) (l .verdict) (l .state) (l .out) in
+    let r = c .before .before .before .before .call .ensures in
+    let v = c .before .before .before .before .call .result .verdict in
     let n : number v ≡ 0 → ⊥ = λ z. c .if2 .taken (c .before .number .ensures ∙ z) in
     let m : l .k + a .size - l .k ≡ a .size = omega arith in
     let w = whole-end (l .at) (l .out) (l .inv .2) in
@@ -126,14 +126,14 @@ generate-all-spec =
     returns
     loop-holds
     sub-loop
-    add-generate
-    sub-generate
-    part-generate-start
-    part-generate-end
-    sub-generate-2
-    part-generate-start-2
-    part-generate-end-2
-    generate-requires
+    add-call
+    sub-call
+    part-call-start
+    part-call-end
+    sub-call-2
+    part-call-start-2
+    part-call-end-2
+    call-requires
     number-requires
     add-k
     add-at

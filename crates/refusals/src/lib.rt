@@ -1,0 +1,141 @@
+// The verdict on a call, and the tests before its work: refusals 2 to 6, in stages.
+ghost use mathlib.Core.Path.{_≡_};
+ghost use Rattle.rows.specs.Facts.{FieldsIn};
+ghost use Rattle.refusals.specs.Verdict.{number, extra};
+ghost use Rattle.refusals.specs.Stages.{then as thenSpec, startIn, begunIn, detailTried, recordTried, rowIn};
+use state::State;
+use tables::Head;
+
+// Acceptance, or the refusal: its number and extra number are in specs/Verdict.antt.
+pub enum Verdict {
+    Accepted,
+    Description(usize),
+    State,
+    Phase,
+    Detail,
+    Length,
+    Field(usize),
+    Sum,
+    Pages,
+    Room,
+}
+
+// What a stage of the tests finds.
+pub enum Tried {
+    Passed,
+    Refused(Verdict),
+}
+
+impl Verdict {
+    // The number of the refusal table; 0 is acceptance.
+    pub fn number(self) -> u64
+        ensures { λ r. ⌜ r ≡ number self ⌝ }
+    {
+        match self {
+            Verdict::Accepted => 0,
+            Verdict::Description(_) => 1,
+            Verdict::State => 2,
+            Verdict::Phase => 3,
+            Verdict::Detail => 4,
+            Verdict::Length => 5,
+            Verdict::Field(_) => 6,
+            Verdict::Sum => 7,
+            Verdict::Pages => 8,
+            Verdict::Room => 9,
+        }
+    }
+
+    // The extra number: the first broken rule, or the first malformed field.
+    pub fn extra(self) -> u64
+        ensures { λ r. ⌜ r ≡ extra self ⌝ }
+    {
+        match self {
+            Verdict::Accepted => 0,
+            Verdict::Description(rule) => rule as u64,
+            Verdict::State => 0,
+            Verdict::Phase => 0,
+            Verdict::Detail => 0,
+            Verdict::Length => 0,
+            Verdict::Field(field) => field as u64,
+            Verdict::Sum => 0,
+            Verdict::Pages => 0,
+            Verdict::Room => 0,
+        }
+    }
+}
+
+// One stage, then the next: the first refusal counts.
+pub fn then(first: Tried, second: Tried) -> Tried
+    ensures { λ r. ⌜ r ≡ thenSpec first second ⌝ }
+{
+    match first {
+        Tried::Passed => second,
+        Tried::Refused(v) => Tried::Refused(v),
+    }
+}
+
+// Refusals 2 and 3 of INITIATE, by whether the state keeps its rules and by its phase.
+pub fn start_tried(ok: bool, phase: u8) -> Tried
+    ensures { λ r. ⌜ r ≡ startIn ok phase ⌝ }
+{
+    if !ok {
+        return Tried::Refused(Verdict::State);
+    }
+    if phase == State::IDLE {
+        Tried::Passed
+    } else {
+        Tried::Refused(Verdict::Phase)
+    }
+}
+
+// Refusals 2 and 3 of GENERATE and TERMINATE.
+pub fn begun_tried(ok: bool, phase: u8) -> Tried
+    ensures { λ r. ⌜ r ≡ begunIn ok phase ⌝ }
+{
+    if !ok {
+        return Tried::Refused(Verdict::State);
+    }
+    if phase == State::IDLE {
+        Tried::Refused(Verdict::Phase)
+    } else {
+        Tried::Passed
+    }
+}
+
+// Refusal 4.
+pub fn detail_tried(t: &[u16], h: Head, d: usize) -> Tried
+    ensures { λ r. ⌜ r ≡ detailTried h (now (t .entry)) d ⌝ }
+{
+    if lookup::find_detail(t, h, d) < tables::wide(h.groups) {
+        Tried::Passed
+    } else {
+        Tried::Refused(Verdict::Detail)
+    }
+}
+
+// Refusals 5 and 6.
+pub fn record_tried(t: &[u16], h: Head, rec: &[u8]) -> Tried
+    requires { ⌜ FieldsIn h (now t) ⌝ }
+    ensures { λ r. ⌜ r ≡ recordTried h (now (t .entry)) (now (rec .entry)) ⌝ }
+{
+    if rec.len() != tables::wide(h.reclen) {
+        return Tried::Refused(Verdict::Length);
+    }
+    let bad = rows::first_malformed(t, h, rec);
+    if bad < tables::wide(h.fields) {
+        Tried::Refused(Verdict::Field(bad))
+    } else {
+        Tried::Passed
+    }
+}
+
+// Refusals 2 to 6 of GENERATE.
+pub fn row_tried(t: &[u16], h: Head, ok: bool, phase: u8, d: usize, rec: &[u8]) -> Tried
+    requires { ⌜ FieldsIn h (now t) ⌝ }
+    ensures { λ r. ⌜ r ≡ rowIn h (now (t .entry)) ok phase d (now (rec .entry)) ⌝ }
+{
+    then(
+        begun_tried(ok, phase),
+        then(detail_tried(t, h, d), record_tried(t, h, rec)),
+    )
+}

@@ -1,0 +1,38 @@
+-- From CHECK's answer on the bytes to the call's.
+-- Assumes nothing.
+use Prim.Native.Nat.{ℕ}
+use mathlib.Core.Path.{_≡_, refl, sym, _∙_}
+use mathlib.Core.Bool.{true}
+use mathlib.Core.List.{List}
+use Rattle.file.specs.Sections.{ruleD1}
+use Rattle.tables.specs.declared.Head.{Head}
+use Rattle.tables.specs.Head.{headOf}
+use Rattle.tables.specs.Table.{table, literals}
+use Rattle.description.specs.declared.Checked.{Checked}
+use Rattle.description.specs.declared.Checked.the-variants.{Accepted, Broken}
+use Rattle.description.specs.Check.{judged, checked}
+use Rattle.description.proofs.Answer.{d1-kept}
+use Rattle.accepted.specs.Accepted as facts
+use Rattle.accepted.proofs.Accept.{accepted}
+use Rattle.state.specs.declared.State.{State}
+use Rattle.refusals.specs.declared.Verdict.the-variants.{Description}
+use Rattle.calls.specs.declared.Answer.{Answer}
+use Rattle.calls.specs.declared.Asked.{Asked}
+use Rattle.calls.specs.Result.{refusal, Returns}
+use Rattle.calls.specs.Calls.{callOn}
+use Rattle.report.specs.Calls.{call}
+
+module _ (d : List ℕ) (h : Head) (t lits : List ℕ) (eh : h ≡ headOf d) (et : t ≡ table d) (el : lits ≡ literals d) (o : ruleD1 d ≡ true) where
+  pub judged-so : (x : Checked) → x ≡ judged h t lits → checked d ≡ x
+  judged-so x e = d1-kept d o ∙ sym (rw (eh, et, el) at e)
+
+  pub accepted-so : Accepted ≡ judged h t lits → facts.Accepted h t lits
+  accepted-so e = rw (eh, et, el) (accepted d (judged-so Accepted e))
+
+  pub call-so : (s : State) (r : Answer) (e : Accepted ≡ judged h t lits) (a : Asked) (row out new : List ℕ) → Returns (callOn h t lits s a row out) r new → Returns (call d s a row out) r new
+  unfolding call
+  call-so s r e a row out new x = rw (judged-so Accepted e) (rw (eh, et, el) at x)
+
+pub call-broken : (d : List ℕ) (k : ℕ) → checked d ≡ Broken k → (s : State) (r : Answer) → r ≡ refusal s (Description k) → (a : Asked) (row out : List ℕ) → Returns (call d s a row out) r out
+unfolding call
+call-broken d k e s r q a row out = rw e (record { answerIs = q; outIs = refl })

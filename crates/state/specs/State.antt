@@ -1,0 +1,39 @@
+-- The state of a report: its phases, its sizes, and a fresh one.
+use Prim.Native.Nat.{ℕ}
+use mathlib.Core.Bool.{false}
+use lib.IntN.{pos}
+use lib.ListN.{replicate}
+use Rattle.state.specs.declared.State.{State}
+
+-- "phase (idle, started, running)"
+abbrev pub idle : ℕ
+idle = 0
+
+abbrev pub started : ℕ
+started = 1
+
+abbrev pub running : ℕ
+running = 2
+
+-- "up to 32 sums", "eight indicate flags", "a kept record of 256 bytes"
+abbrev pub sumCount : ℕ
+sumCount = 32
+
+abbrev pub flagCount : ℕ
+flagCount = 8
+
+abbrev pub keptSize : ℕ
+keptSize = 256
+
+-- "A fresh report is idle, line 0, page 1, all else 0."; "Started: as fresh but for the phase."
+abbrev pub freshAt : ℕ → State
+freshAt phase = record {
+  phase = phase;
+  page = 1;
+  line = 0;
+  seen = false;
+  saved = 0;
+  sums = replicate sumCount (pos 0);
+  flags = replicate flagCount false;
+  kept = replicate keptSize 0;
+}
