@@ -20,7 +20,8 @@ use Rattle.accepted.proofs.Accept.{accepted}
 use Rattle.rows.specs.Breaks.{breakLevel}
 use Rattle.sums.specs.declared.Totals.{Totals}
 use Rattle.amounts.specs.Totals.{totalsFirst, totalsLater, totalsLast}
-use Rattle.compose.specs.Items.{inputs}
+use Rattle.printed.specs.Printed.{noPrefix}
+use Rattle.call_text.specs.Bytes.{reading}
 use Rattle.plan.specs.declared.Plan.{Plan}
 use Rattle.plan.specs.Plan.{firstPlan, laterPlan, lastPlan}
 use Rattle.layout.specs.Layout.{layout}
@@ -37,11 +38,11 @@ use Rattle.report.specs.Calls.{cleared, breaks, flagsAt, firstWork, late
 
 module _ (h : Head) (t lits : List ℕ) (s : Report) (out : List ℕ) (r : Answer) (new : List ℕ) where
   module _ (d : ℕ) (row : List ℕ) where
-    pub first-so : (totals : Totals) (g : ℕ) (p : Plan) (kept : List ℕ) (n : ℕ) (set flags : List Bool) → totals ≡ totalsFirst h t row d (s .sums) → g ≡ theDetail h t d → p ≡ firstPlan h g → kept ≡ paddedRow row → n ≡ details h t → set ≡ flagsSet n → flags ≡ cleared h t d set → Returns (settled h t s (work totals (layout h t true p false (placeOf s)) (inputs lits kept row (totals .shown) true) 2 flags kept) out) r new → Returns (settled h t s (firstWork h t lits s d row) out) r new
+    pub first-so : (totals : Totals) (g : ℕ) (p : Plan) (kept : List ℕ) (n : ℕ) (set flags : List Bool) → totals ≡ totalsFirst h t row d (s .sums) → g ≡ theDetail h t d → p ≡ firstPlan h g → kept ≡ paddedRow row → n ≡ details h t → set ≡ flagsSet n → flags ≡ cleared h t d set → Returns (settled h t s (work totals (layout h t p (placeOf s)) (reading lits kept row (totals .shown) true noPrefix) 2 flags kept) out) r new → Returns (settled h t s (firstWork h t lits s d row) out) r new
     unfolding firstWork
     first-so totals g p kept n set flags e1 e2 e3 e4 e5 e6 e7 x = rw (e1, e3, e2, e4, e7, e6, e5) at x
 
-    pub later-so : (b : ℕ) (totals : Totals) (g : ℕ) (p : Plan) (set flags : List Bool) (next : List ℕ) → b ≡ breakLevel h t (s .kept) row → totals ≡ totalsLater h t row d b (s .sums) → g ≡ theDetail h t d → p ≡ laterPlan h b g → set ≡ flagsAt h t b (s .flags) → flags ≡ cleared h t d set → next ≡ cond (breaks h b) (paddedRow row) (s .kept) → Returns (settled h t s (work totals (layout h t false p false (placeOf s)) (inputs lits (s .kept) row (totals .shown) (getD set d false)) 2 flags next) out) r new → Returns (settled h t s (laterWork h t lits s d row) out) r new
+    pub later-so : (b : ℕ) (totals : Totals) (g : ℕ) (p : Plan) (set flags : List Bool) (next : List ℕ) → b ≡ breakLevel h t (s .kept) row → totals ≡ totalsLater h t row d b (s .sums) → g ≡ theDetail h t d → p ≡ laterPlan h b g → set ≡ flagsAt h t b (s .flags) → flags ≡ cleared h t d set → next ≡ cond (breaks h b) (paddedRow row) (s .kept) → Returns (settled h t s (work totals (layout h t p (placeOf s)) (reading lits (s .kept) row (totals .shown) (getD set d false) noPrefix) 2 flags next) out) r new → Returns (settled h t s (laterWork h t lits s d row) out) r new
     unfolding laterWork
     later-so b totals g p set flags next e1 e2 e3 e4 e5 e6 e7 x = rw (e2, e4, e3, e6, e5, e7, e1) at x
 
@@ -57,7 +58,7 @@ module _ (h : Head) (t lits : List ℕ) (s : Report) (out : List ℕ) (r : Answe
     unfolding generatedOn
     generated-later e p x = rw (e, ne-eqb (s .phase) 1 p) x
 
-  pub last-so : (totals : Totals) (p : Plan) → totals ≡ totalsLast h t (s .sums) → p ≡ lastPlan h → Returns (settled h t s (work totals (layout h t false p true (placeOf s)) (inputs lits (s .kept) (s .kept) (totals .shown) false) 0 (s .flags) (s .kept)) out) r new → Returns (settled h t s (lastWork h t lits s) out) r new
+  pub last-so : (totals : Totals) (p : Plan) → totals ≡ totalsLast h t (s .sums) → p ≡ lastPlan h → Returns (settled h t s (work totals (layout h t p (placeOf s)) (reading lits (s .kept) (s .kept) (totals .shown) false noPrefix) 0 (s .flags) (s .kept)) out) r new → Returns (settled h t s (lastWork h t lits s) out) r new
   unfolding lastWork
   last-so totals p e1 e2 x = rw (e1, e2) at x
 

@@ -16,7 +16,8 @@ use Rattle.rows.specs.Fields.{firstMalformed}
 use Rattle.rows.specs.Breaks.{breakLevel}
 use Rattle.sums.specs.declared.Totals.{Totals}
 use Rattle.amounts.specs.Totals.{totalsFirst, totalsLater, totalsLast}
-use Rattle.compose.specs.Items.{inputs}
+use Rattle.printed.specs.Printed.{noPrefix}
+use Rattle.call_text.specs.Bytes.{reading}
 use Rattle.plan.specs.Plan.{firstPlan, laterPlan, lastPlan}
 use Rattle.layout.specs.Layout.{layout}
 use Rattle.state.specs.Rules.{idle, started, running}
@@ -38,7 +39,7 @@ cleared h t d flags = cond (eqb (lineCount h t (theDetail h t d)) 0) flags (set 
 -- "First GENERATE: phase running, keep the record, set each detail's indicate flag; RH, PH, all CH senior to junior; then subtotal; then the detail."
 abbrev pub firstWith : Head → List ℕ → List ℕ → Report → ℕ → List ℕ → Totals → Work
 firstWith h t lits s d row totals =
-    work totals (layout h t true (firstPlan h (theDetail h t d)) false (placeOf s)) (inputs lits (paddedRow row) row (totals .shown) true) running
+    work totals (layout h t (firstPlan h (theDetail h t d)) (placeOf s)) (reading lits (paddedRow row) row (totals .shown) true noPrefix) running
     (cleared h t d (flagsSet (details h t)))
     (paddedRow row)
 
@@ -55,8 +56,8 @@ flagsAt h t b flags = cond (breaks h b) (flagsSet (details h t)) flags
 
 abbrev pub laterWith : Head → List ℕ → List ℕ → Report → ℕ → List ℕ → ℕ → Totals → Work
 laterWith h t lits s d row b totals =
-    work totals (layout h t false (laterPlan h b (theDetail h t d)) false (placeOf s))
-    (inputs lits (s .kept) row (totals .shown) (getD (flagsAt h t b (s .flags)) d false))
+    work totals (layout h t (laterPlan h b (theDetail h t d)) (placeOf s))
+    (reading lits (s .kept) row (totals .shown) (getD (flagsAt h t b (s .flags)) d false) noPrefix)
     running
     (cleared h t d (flagsAt h t b (s .flags)))
     (cond (breaks h b) (paddedRow row) (s .kept))
@@ -73,7 +74,7 @@ rowWork h t lits s d row = cond (eqb (s .phase) started) (firstWork h t lits s d
 -- "TERMINATE .. when running: break at level 0, all CFs, then PF, RF; idle after, the rest as these steps leave it."
 abbrev pub lastWith : Head → List ℕ → List ℕ → Report → Totals → Work
 lastWith h t lits s totals =
-    work totals (layout h t false (lastPlan h) true (placeOf s)) (inputs lits (s .kept) (s .kept) (totals .shown) false) idle (s .flags) (s .kept)
+    work totals (layout h t (lastPlan h) (placeOf s)) (reading lits (s .kept) (s .kept) (totals .shown) false noPrefix) idle (s .flags) (s .kept)
 
 unfoldable pub lastWork : Head → List ℕ → List ℕ → Report → Work
 lastWork h t lits s = lastWith h t lits s (totalsLast h t (s .sums))

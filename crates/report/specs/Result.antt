@@ -7,7 +7,7 @@ use lib.IntN.{ℤ}
 use lib.ListN.{length}
 use Rattle.tables.specs.declared.Head.{Head}
 use Rattle.sums.specs.declared.Totals.{Totals}
-use Rattle.compose.specs.Items.{Inputs}
+use Rattle.call_text.specs.Bytes.{Reading}
 use Rattle.layout.specs.declared.Pos.{Pos}
 use Rattle.layout.specs.Layout.{Laid}
 use Rattle.pages.specs.declared.Outcome.{Outcome}
@@ -34,13 +34,13 @@ refuse s out v = record { answer = refusal s v; out = out }
 pub record Work : Type 0 where
   pub ok : Bool
   pub laid : Laid
-  pub inputs : Inputs
+  pub inputs : Reading
   pub phase : ℕ
   pub sums : List ℤ
   pub flags : List Bool
   pub kept : List ℕ
 
-abbrev pub work : Totals → Laid → Inputs → ℕ → List Bool → List ℕ → Work
+abbrev pub work : Totals → Laid → Reading → ℕ → List Bool → List ℕ → Work
 work totals laid inputs phase flags kept = record {
   ok = totals .ok;
   laid = laid;
@@ -77,7 +77,7 @@ answered s next NoRoom = refusal s Room
 unfoldable pub settled : Head → List ℕ → Report → Work → List ℕ → Result
 settled h t s w out =
     cond (w .ok)
-    (record { answer = answered s (moved w) (outcome h t (length out) (w .laid)); out = written h t (w .inputs) out (w .laid) })
+    (record { answer = answered s (moved w) (outcome h t (w .inputs .prefix) (length out) (w .laid)); out = written h t (w .inputs) out (w .laid) })
     (refuse s out Sum)
 
 -- what a call returns and leaves is a result

@@ -8,10 +8,11 @@ ghost use Rattle.file.specs.Sections.{ruleD1};
 ghost use Rattle.tables.specs.Table.{numbers, table};
 ghost use Rattle.lookup.specs.Find.{theDetail};
 ghost use Rattle.rows.specs.Facts.{FieldsIn};
-ghost use Rattle.compose.specs.Items.{inputs};
+ghost use Rattle.printed.specs.Printed.{noPrefix};
+ghost use Rattle.call_text.specs.Bytes.{reading};
 ghost use Rattle.layout.specs.Layout.{layout as layoutSpec};
 ghost use Rattle.layout.specs.Facts.{Called};
-ghost use Rattle.pages.specs.Facts.{Printable};
+ghost use Rattle.call_text.specs.Facts.{Printable};
 ghost use Rattle.accepted.specs.Accepted.{Accepted};
 ghost use Rattle.report.specs.State.{freshAt, keeps, placeOf};
 ghost use Rattle.report.specs.Verdict.{number, extra};
@@ -24,6 +25,7 @@ ghost use Rattle.report.specs.Facts.{Stands, RowIn};
 use description::Checked;
 use file::Kept;
 use layout::Pos;
+use pages::Job;
 use pages::Outcome;
 use place::Spot;
 use plan::Plan;
@@ -229,37 +231,30 @@ fn run<'a>(
     kept: &'a [u8],
     row: &'a [u8],
     flag: bool,
-    opens: bool,
     p: Plan,
-    closes: bool,
     phase: u8,
     flags: [bool; 8],
     next: [u8; 256],
     out: &mut [u8],
 ) -> Answer
-    requires { ⌜ Called h (now t) p (placeOf s) × Printable h (now t) (inputs (now lits) (now kept) (now row) (totals .shown) flag) ⌝ }
-    ensures { λ r. ⌜ Returns (settled h (now (t .entry)) s (work totals (layoutSpec h (now (t .entry)) opens p closes (placeOf s)) (inputs (now (lits .entry)) (now (kept .entry)) (now (row .entry)) (totals .shown) flag) phase flags next) (now (out .entry))) r (now (out .exit)) ⌝ }
+    requires { ⌜ Called h (now t) p (placeOf s) × (Printable h (now t) (reading (now lits) (now kept) (now row) (totals .shown) flag noPrefix) × (length (totals .shown) ≡ 32)) ⌝ }
+    ensures { λ r. ⌜ Returns (settled h (now (t .entry)) s (work totals (layoutSpec h (now (t .entry)) p (placeOf s)) (reading (now (lits .entry)) (now (kept .entry)) (now (row .entry)) (totals .shown) flag noPrefix) phase flags next) (now (out .entry))) r (now (out .exit)) ⌝ }
 {
     let ok = totals.ok;
     if !ok {
         return refusal(s, Verdict::Sum);
     }
+    let prefix = printed::no_prefix();
+    let pos = place_of(s);
     let shown = totals.shown;
     let sums = totals.sums;
-    let outcome = pages::call(
-        t,
-        h,
-        lits,
-        kept,
-        row,
-        &shown,
+    let job = Job {
+        plan: p,
+        pos,
         flag,
-        opens,
-        p,
-        closes,
-        place_of(s),
-        out,
-    );
+        prefix,
+    };
+    let outcome = pages::call(t, h, lits, kept, row, &shown, job, out);
     conclude(s, phase, sums, flags, next, outcome)
 }
 
@@ -291,9 +286,7 @@ fn first_row(
         &kept,
         rec,
         true,
-        true,
         plan::first_plan(h, group),
-        false,
         Report::RUNNING,
         flags,
         next,
@@ -351,22 +344,18 @@ fn later_row(
     if !ok {
         return refusal(s, Verdict::Sum);
     }
+    let prefix = printed::no_prefix();
+    let plan = plan::later_plan(h, b, group);
+    let pos = place_of(s);
     let shown = totals.shown;
     let sums = totals.sums;
-    let outcome = pages::call(
-        t,
-        h,
-        lits,
-        &kept,
-        rec,
-        &shown,
+    let job = Job {
+        plan,
+        pos,
         flag,
-        false,
-        plan::later_plan(h, b, group),
-        false,
-        place_of(s),
-        out,
-    );
+        prefix,
+    };
+    let outcome = pages::call(t, h, lits, &kept, rec, &shown, job, out);
     conclude(s, Report::RUNNING, sums, flags, next, outcome)
 }
 
@@ -389,9 +378,7 @@ fn last_groups(t: &[u16], h: Head, lits: &[u8], s: Report, out: &mut [u8]) -> An
         &kept,
         &kept,
         false,
-        false,
         plan::last_plan(h),
-        true,
         Report::IDLE,
         flags,
         next,

@@ -4,7 +4,7 @@ use Prim.Native.Nat.{_<_, _≤_}
 use mathlib.Core.Path.{_≡_, refl, sym, ap, _∙_}
 use native.Mathlib.Omega.{arith}
 use borrow.Author.Needs.{needs}
-use Rattle.report.proofs.Ready.{detail-few, first-adding, first-called, first-printable}
+use Rattle.report.proofs.Ready.{detail-few, first-adding, first-called, first-long, first-printable}
 use Rattle.report.proofs.Works.{first-so}
 use Rattle.report.proofs.first_row.Statement.{statement}
 use Rattle.report.proofs.first_row.Tie as tie
@@ -24,7 +24,7 @@ run-requires : tie.Need-run-requires
 run-requires c κs =
     let p = c .before .before .before .before .before .before .before .before .before .before .before .before .before .before .pre in
     rw (c .before .first-plan .ensures, c .before .before .before .before .before .before .before .totals-first .ensures, c .before .before .before .before .before .before .padded .ensures)
-    (first-called _ _ _ (p .0 .accepted) _ (p .0) _ _ (p .1 .0) (p .1 .1) _ (c .before .before .before .before .before .before .before .before .before .find-detail .ensures .1), first-printable _ _ _ (p .0 .accepted) _ (p .0) _ _ (p .1 .0) (p .1 .1))
+    (first-called _ _ _ (p .0 .accepted) _ (p .0) _ _ (p .1 .0) (p .1 .1) _ (c .before .before .before .before .before .before .before .before .before .find-detail .ensures .1), (first-printable _ _ _ (p .0 .accepted) _ (p .0) _ _ (p .1 .0) (p .1 .1), first-long _ _ _ (p .0 .accepted) _ (p .0) _ _ (p .1 .0) (p .1 .1)))
 
 returns : tie.Need-returns
 returns c =

@@ -2,7 +2,7 @@
 -- Assumes nothing.
 use mathlib.Core.Path.{_≡_, refl, sym, ap, _∙_}
 use borrow.Author.Needs.{needs}
-use Rattle.report.proofs.Ready.{last-sums, last-called, last-printable}
+use Rattle.report.proofs.Ready.{last-sums, last-called, last-long, last-printable}
 use Rattle.report.proofs.Works.{last-so}
 use Rattle.report.proofs.last_groups.Statement.{statement}
 use Rattle.report.proofs.last_groups.Tie as tie
@@ -13,7 +13,7 @@ totals-last-requires c κs = let p = c .before .before .before .before .before .
 run-requires : tie.Need-run-requires
 run-requires c κs =
     let p = c .before .before .before .before .before .before .before .before .before .before .before .before .pre in
-    rw (c .before .last-plan .ensures, c .before .before .before .before .totals-last .ensures) (last-called _ _ _ (p .0 .accepted) _ (p .0) (p .1), last-printable _ _ _ (p .0 .accepted) _ (p .0) (p .1))
+    rw (c .before .last-plan .ensures, c .before .before .before .before .totals-last .ensures) (last-called _ _ _ (p .0 .accepted) _ (p .0) (p .1), (last-printable _ _ _ (p .0 .accepted) _ (p .0) (p .1), last-long _ _ _ (p .0 .accepted) _ (p .0) (p .1)))
 
 returns : tie.Need-returns
 returns c = last-so _ _ _ _ _ _ _ _ _ (c .before .before .before .before .before .before .before .totals-last .ensures) (c .before .before .before .before .last-plan .ensures) (c .before .before .run .ensures)
