@@ -1,33 +1,22 @@
 -- The first count bytes of what a call leaves are the lines of its groups.
 -- Assumes nothing.
-use Prim.Native.Nat.{ℕ, _+_, _*_, _<_}
-use mathlib.Core.Path.{_≡_, refl, sym, ap, _∙_}
-use mathlib.Core.List.{List, [], _∷_, _++_}
-use native.Mathlib.Nat.{add-mul}
-use native.Mathlib.Omega.{arith}
-use lib.ListN.{length, take, drop, length-append}
-use lib.Seq.{take-at}
+use Prim.Native.Nat.{ℕ, _<_}
+use mathlib.Core.Path.{_≡_}
+use mathlib.Core.List.{List, [], _∷_}
+use lib.ListN.{take}
 use Rattle.splice.specs.Splice.{splice}
+use Rattle.printed.specs.Printed.{Short}
 use Rattle.tables.specs.declared.Head.{Head}
-use Rattle.tables.specs.Table.{lineCount}
-use Rattle.compose.specs.Items.{Inputs}
 use Rattle.compose.specs.Facts.{ItemsIn}
-use Rattle.group_text.proofs.Groups.{length-groupBytes}
 use Rattle.pagination.specs.All.{All}
-use Rattle.group_text.specs.Groups.{groupBytes}
 use Rattle.layout.specs.Layout.{Due}
-use Rattle.layout.specs.Lines.{lineTotal}
-use Rattle.pages.specs.Bytes.{dueBytes, byteCount}
+use Rattle.call_text.specs.Bytes.{Reading, dueBytes, byteCount}
+use Rattle.call_text.proofs.Bytes as call
 
-pub bytes-length : (h : Head) (t : List ℕ) (inp : Inputs) → ItemsIn h t (inp .lits) → (us : List Due) → All (λ u. u .group < h .groups) us → length (dueBytes h t inp us) ≡ byteCount h t us
-unfolding dueBytes byteCount lineTotal
-bytes-length h t inp z [] g = omega arith
-bytes-length h t inp z (u ∷ us) g =
-    let e = bytes-length h t inp z us (g .1) in
-    let f = length-groupBytes h t inp (u .kept) (u .page) (u .at) (u .group) z (g .0) in
-    let d : (lineCount h t (u .group) + lineTotal h t us) * (h .width + 10) ≡ lineCount h t (u .group) * (h .width + 10) + lineTotal h t us * (h .width + 10) = add-mul _ _ _ in
-    simp length-append (omega arith)
+groups-in : (h : Head) (us : List Due) → All (λ u. u .group < h .groups) us → call.GroupsIn h us
+groups-in h [] g = call.none
+groups-in h (u ∷ us) g = call.more (g .0) (groups-in h us (g .1))
 
-pub printed-part : (h : Head) (t : List ℕ) (inp : Inputs) → ItemsIn h t (inp .lits) → (us : List Due) → All (λ u. u .group < h .groups) us → (out : List ℕ) → take (byteCount h t us) (splice out 0 (dueBytes h t inp us)) ≡ dueBytes h t inp us
-unfolding splice
-printed-part h t inp z us g out = take-at (dueBytes h t inp us) _ (byteCount h t us) (bytes-length h t inp z us g)
+pub printed-part : (h : Head) (t : List ℕ) (rd : Reading) → ItemsIn h t (rd .lits) → Short (rd .prefix) → (us : List Due) → All (λ u. u .group < h .groups) us → (out : List ℕ)
+    → take (byteCount h t (rd .prefix) us) (splice out 0 (dueBytes h t rd us)) ≡ dueBytes h t rd us
+printed-part h t rd z p us g out = call.printed-part h t rd z p (groups-in h us g) out

@@ -27,14 +27,15 @@ use Rattle.rows.proofs.Breaks.{break-values, break-none}
 use Rattle.sums.specs.declared.Totals.{Totals}
 use Rattle.sums.proofs.Range.{getD-set}
 use Rattle.amounts.specs.Totals.{totalsFirst, totalsLater, totalsLast}
-use Rattle.compose.specs.Items.{Inputs}
+use Rattle.printed.specs.Printed.{Short}
+use Rattle.printed.proofs.Laws.{no-prefix-short}
 use Rattle.compose.specs.Facts.{ItemsIn}
 use Rattle.place.specs.Rules.{Running}
 use Rattle.shape.specs.Shape.{frameOf}
 use Rattle.plan.specs.Plan.{firstPlan, laterPlan, lastPlan}
 use Rattle.layout.specs.declared.Pos.{Pos}
 use Rattle.layout.specs.Layout.{Laid, layout, nothing}
-use Rattle.pages.specs.Bytes.{dueBytes}
+use Rattle.call_text.specs.Bytes.{Reading, dueBytes}
 use Rattle.pages.specs.Outcome.{lastPage}
 use Rattle.pagination.specs.Rising.{rank}
 use Rattle.pagination.specs.Claims.{Sound, rankAt, Placed, Closed}
@@ -133,12 +134,12 @@ module _ (d : List ℕ) (accepts : checked d ≡ Accepted) (A : facts.Accepted (
         fresh : s ≡ freshAt 1
         fresh = T .begins e .0
 
-        laid1 : w1 .laid ≡ layout h t true (firstPlan h (theDetail h t i)) false (placeOf s)
+        laid1 : w1 .laid ≡ layout h t (firstPlan h (theDetail h t i)) (placeOf s)
         unfolding firstWork
         laid1 = refl
 
         placed1 : Placed h t (b .report) (placeOf s) (w1 .laid)
-        placed1 = rw laid1 (first-placed h t (b .report) (A .pageFits) (firstPlan h (theDetail h t i)) (placeOf s) detail-ok (ap (λ (x : Report). x .page) fresh) (ap (λ (x : Report). x .line) fresh))
+        placed1 = rw laid1 (first-placed h t (b .report) (A .pageFits) (theDetail h t i) (placeOf s) detail-ok (ap (λ (x : Report). x .page) fresh) (ap (λ (x : Report). x .line) fresh))
 
         same1 : w1 .laid ≡ dueFor h t (b .row) call (b .pos)
         same1 = rw (T .begins e .1, T .place) laid1
@@ -183,8 +184,12 @@ module _ (d : List ℕ) (accepts : checked d ≡ Accepted) (A : facts.Accepted (
         unfolding firstWork
         items1 = A .itemsIn
 
+        short1 : Short (w1 .inputs .prefix)
+        unfolding firstWork
+        short1 = no-prefix-short
+
         pub first-ok : Ok d Tracks b call (w1 .inputs) (settled h t s w1 out)
-        first-ok = settled-ok d Tracks b call (w1 .inputs) s out T w1 same1 refl items1 (rw (T .place) (placed1 .sound)) refl refl next1
+        first-ok = settled-ok d Tracks b call (w1 .inputs) s out T w1 same1 refl items1 short1 (rw (T .place) (placed1 .sound)) refl refl next1
 
       -- a later row
       module _ (e : s .phase ≡ 2) where
@@ -200,12 +205,12 @@ module _ (d : List ℕ) (accepts : checked d ≡ Accepted) (A : facts.Accepted (
         abbrev level : ℕ
         level = breakLevel h t (s .kept) row
 
-        laid2 : w2 .laid ≡ layout h t false (laterPlan h level (theDetail h t i)) false (placeOf s)
+        laid2 : w2 .laid ≡ layout h t (laterPlan h level (theDetail h t i)) (placeOf s)
         unfolding laterWork
         laid2 = refl
 
         placed2 : Placed h t (b .report) (placeOf s) (w2 .laid)
-        placed2 = rw laid2 (later-placed h t (b .report) (A .pageFits) (laterPlan h level (theDetail h t i)) (placeOf s) detail-ok (facts2 .spot))
+        placed2 = rw laid2 (later-placed h t (b .report) (A .pageFits) level (theDetail h t i) (placeOf s) detail-ok (facts2 .spot))
 
         -- the book finds the break against its own row
         same2 : w2 .laid ≡ dueFor h t (b .row) call (b .pos)
@@ -255,8 +260,12 @@ module _ (d : List ℕ) (accepts : checked d ≡ Accepted) (A : facts.Accepted (
         unfolding laterWork
         items2 = A .itemsIn
 
+        short2 : Short (w2 .inputs .prefix)
+        unfolding laterWork
+        short2 = no-prefix-short
+
         pub later-ok : Ok d Tracks b call (w2 .inputs) (settled h t s w2 out)
-        later-ok = settled-ok d Tracks b call (w2 .inputs) s out T w2 same2 refl items2 (rw (T .place) (placed2 .sound)) refl refl next2
+        later-ok = settled-ok d Tracks b call (w2 .inputs) s out T w2 same2 refl items2 short2 (rw (T .place) (placed2 .sound)) refl refl next2
 
       -- the row's work, by phase
       row-ok : (eqb (s .phase) idle ≡ false) → Ok d Tracks b call (rowWork h t (literals d) s i row .inputs) (settled h t s (rowWork h t (literals d) s i row) out)
@@ -265,7 +274,7 @@ module _ (d : List ℕ) (accepts : checked d ≡ Accepted) (A : facts.Accepted (
           (λ e. rw e (first-ok (eqb-true (s .phase) 1 e)))
           (λ e. rw e (later-ok (two (s .phase) (L .phase-listed s (T .kept)) (eqb-false (s .phase) 0 n) (eqb-false (s .phase) 1 e))))
 
-    no-ok : (c : Call) (reading : Inputs) (v : Verdict) → 3 ≤ number v → number v ≤ 9 → eqb (number v) 0 ≡ false → Ok d Tracks b c reading (refuse s out v)
+    no-ok : (c : Call) (reading : Reading) (v : Verdict) → 3 ≤ number v → number v ≤ 9 → eqb (number v) 0 ≡ false → Ok d Tracks b c reading (refuse s out v)
     no-ok c reading v l m e = refused-ok d Tracks b c reading s out T v l m e
 
     pub generate-ok : (i : ℕ) (row : List ℕ) → Ok d Tracks b (generate i row) (reads d s (generate i row)) (answer d s (generate i row) out)
@@ -301,7 +310,7 @@ module _ (d : List ℕ) (accepts : checked d ≡ Accepted) (A : facts.Accepted (
       facts3 : RunFacts h t s
       facts3 = L .run-facts s e (T .kept)
 
-      laid3 : w3 .laid ≡ layout h t false (lastPlan h) true (placeOf s)
+      laid3 : w3 .laid ≡ layout h t (lastPlan h) (placeOf s)
       unfolding lastWork
       laid3 = refl
 
@@ -336,9 +345,13 @@ module _ (d : List ℕ) (accepts : checked d ≡ Accepted) (A : facts.Accepted (
       unfolding lastWork
       items3 = A .itemsIn
 
+      short3 : Short (w3 .inputs .prefix)
+      unfolding lastWork
+      short3 = no-prefix-short
+
       pub last-ok : Ok d Tracks b terminate (w3 .inputs) (settled h t s w3 out)
       last-ok =
-          settled-ok d Tracks b terminate (w3 .inputs) s out T w3 same3 refl items3 (rw (T .place) (closed3 .sound)) refl refl
+          settled-ok d Tracks b terminate (w3 .inputs) s out T w3 same3 refl items3 short3 (rw (T .place) (closed3 .sound)) refl refl
           (λ o l. idle-tracks (moved w3 (w3 .laid .to)) _ phase3 (idle3 l) long3 refl)
 
     pub terminate-ok : Ok d Tracks b terminate (reads d s terminate) (answer d s terminate out)

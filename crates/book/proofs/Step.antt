@@ -19,11 +19,11 @@ use Rattle.lookup.specs.Find.{theDetail, details}
 use Rattle.description.specs.declared.Checked.the-variants.{Accepted}
 use Rattle.description.specs.Check.{checked}
 use Rattle.accepted.specs.Accepted as facts
-use Rattle.compose.specs.Items.{Inputs}
+use Rattle.printed.specs.Printed.{Short}
 use Rattle.compose.specs.Facts.{ItemsIn}
 use Rattle.layout.specs.declared.Pos.{Pos}
 use Rattle.layout.specs.Layout.{Due, Laid}
-use Rattle.pages.specs.Bytes.{dueBytes, byteCount}
+use Rattle.call_text.specs.Bytes.{Reading, dueBytes, byteCount}
 use Rattle.pages.specs.Outcome.{lastPage, pastLast, tooShort, outcome, written}
 use Rattle.pagination.specs.All.{All}
 use Rattle.pagination.specs.Rising.{rank, spotsOf}
@@ -53,13 +53,13 @@ module _ (d : List ℕ) where
   Fine n = (n ≡ 0) ⊎ (3 ≤ n) × (n ≤ 9)
 
   -- what one call must show, for the book's entry and whatever invariant is carried
-  pub record Ok (Inv : Report → Book → Type 0) (b : Book) (c : Call) (reading : Inputs) (r : Result) : Type 0 where
+  pub record Ok (Inv : Report → Book → Type 0) (b : Book) (c : Call) (reading : Reading) (r : Result) : Type 0 where
     pub fine : Fine (number (r .answer .verdict))
     pub bytes : take (r .answer .count) (r .out) ≡ dueBytes h t reading (enter h t b c (taken d r) .dues)
     pub sound : Sound h t (enter h t b c (taken d r) .report) (rankAt (b .report) (b .pos)) (rankAt (enter h t b c (taken d r) .next .report) (enter h t b c (taken d r) .next .pos)) (enter h t b c (taken d r) .dues)
     pub next : Inv (r .answer .report) (enter h t b c (taken d r) .next)
 
-  module _ (Inv : Report → Book → Type 0) (b : Book) (c : Call) (reading : Inputs) (s : Report) (out : List ℕ) (inv : Inv s b) where
+  module _ (Inv : Report → Book → Type 0) (b : Book) (c : Call) (reading : Reading) (s : Report) (out : List ℕ) (inv : Inv s b) where
     -- a refusal changes nothing
     pub refused-ok : (v : Verdict) → 3 ≤ number v → number v ≤ 9 → eqb (number v) 0 ≡ false → Ok Inv b c reading (refuse s out v)
     unfolding enter dueBytes
@@ -72,15 +72,15 @@ module _ (d : List ℕ) where
         }
 
     -- a call that prints: 7, 8 and 9, else the groups due by the book
-    module _ (w : Work) (same : w .laid ≡ dueFor h t (b .row) c (b .pos)) (read : reading ≡ w .inputs) (items : ItemsIn h t (w .inputs .lits))
+    module _ (w : Work) (same : w .laid ≡ dueFor h t (b .row) c (b .pos)) (read : reading ≡ w .inputs) (items : ItemsIn h t (w .inputs .lits)) (short : Short (w .inputs .prefix))
         (sound : Sound h t (b .report) (rankAt (b .report) (b .pos)) (rankAt (b .report) (w .laid .to)) (w .laid .dues))
         (stays : turned h t b c (w .laid) .report ≡ b .report) (place : turned h t b c (w .laid) .pos ≡ w .laid .to)
         (next : w .ok ≡ true → w .laid .to .page ≤ lastPage → Inv (moved w (w .laid .to)) (turned h t b c (w .laid))) where
-      done-ok : w .ok ≡ true → w .laid .to .page ≤ lastPage → Ok Inv b c reading (record { answer = record { verdict = verdict.Accepted; count = byteCount h t (w .laid .dues); report = moved w (w .laid .to) }; out = splice out 0 (dueBytes h t (w .inputs) (w .laid .dues)) })
+      done-ok : w .ok ≡ true → w .laid .to .page ≤ lastPage → Ok Inv b c reading (record { answer = record { verdict = verdict.Accepted; count = byteCount h t (w .inputs .prefix) (w .laid .dues); report = moved w (w .laid .to) }; out = splice out 0 (dueBytes h t (w .inputs) (w .laid .dues)) })
       unfolding enter
       done-ok o l = record {
         fine = inl refl;
-        bytes = rw (← same, read) (printed-part h t (w .inputs) items (w .laid .dues) (sound .groups) out);
+        bytes = rw (← same, read) (printed-part h t (w .inputs) items short (w .laid .dues) (sound .groups) out);
         sound = rw (← same, stays, place) sound;
         next = rw (← same) (next o l);
       }
@@ -91,7 +91,7 @@ module _ (d : List ℕ) where
           by-test (w .ok)
           (λ o. by-test (pastLast (w .laid))
           (λ p. rw (o, p) (refused-ok verdict.Pages (omega arith) (omega arith) refl))
-          (λ p. by-test (tooShort h t (length out) (w .laid))
+          (λ p. by-test (tooShort h t (w .inputs .prefix) (length out) (w .laid))
           (λ q. rw (o, p, q) (refused-ok verdict.Room (omega arith) (omega arith) refl))
           (λ q. rw (o, p, q) (done-ok o (ltb-false lastPage (w .laid .to .page) p)))))
           (λ o. rw o (refused-ok verdict.Sum (omega arith) (omega arith) refl))

@@ -8,9 +8,9 @@ use lib.ListN.{take}
 use Rattle.tables.specs.declared.Head.{Head}
 use Rattle.tables.specs.Head.{headOf}
 use Rattle.tables.specs.Table.{table, literals}
-use Rattle.compose.specs.Items.{Inputs, inputs}
+use Rattle.printed.specs.Printed.{noPrefix}
 use Rattle.layout.specs.Layout.{Due}
-use Rattle.pages.specs.Bytes.{dueBytes}
+use Rattle.call_text.specs.Bytes.{Reading, dueBytes}
 use Rattle.pagination.specs.All.{All}
 use Rattle.pagination.specs.Rising.{Rises}
 use Rattle.pagination.specs.Parts.{InPart}
@@ -36,14 +36,14 @@ module _ (d : List ℕ) where
   answer s terminate out = calls.terminate d s out
 
   -- what the call's items read, by demand 2's definition
-  abbrev pub reads : Report → Call → Inputs
-  reads s initiate = inputs [] [] [] [] false
+  abbrev pub reads : Report → Call → Reading
+  reads s initiate = record { lits = []; kept = []; row = []; sums = []; flag = false; prefix = noPrefix }
   reads s (generate i row) = rowWork (headOf d) (table d) (literals d) s i row .inputs
   reads s terminate = lastWork (headOf d) (table d) (literals d) s .inputs
 
   pub record Done : Type 0 where
     pub call : Call
-    pub reading : Inputs
+    pub reading : Reading
     pub result : Result
 
   abbrev pub did : Report → Use → Done

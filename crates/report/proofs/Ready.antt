@@ -21,6 +21,7 @@ use Rattle.sums.specs.Facts.{Adding, CountersIn}
 use Rattle.amounts.specs.Totals.{fresh, totalsFirst, totalsLater, totalsLast}
 use Rattle.amounts.proofs.Good.{GoodSums, GoodTotals, first-good, later-good, last-good}
 use Rattle.printed.specs.Printed.{noPrefix}
+use Rattle.printed.proofs.Laws.{no-prefix-short}
 use Rattle.call_text.specs.Bytes.{reading}
 use Rattle.plan.specs.declared.Plan.{Plan}
 use Rattle.plan.specs.Plan.{firstPlan, laterPlan, lastPlan}
@@ -75,7 +76,7 @@ module _ (h : Head) (t lits : List ℕ) (A : Accepted h t lits) where
   printable kept row sums flag k r n = record {
     items = A .itemsIn;
     readable = record { kept = k; row = r; sums = omega (arith, A .countersIn .few) };
-    prefix = record { size = refl; few = omega arith };
+    prefix = no-prefix-short;
   }
 
   -- ---- a started state and its first row
