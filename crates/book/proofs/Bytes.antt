@@ -5,21 +5,20 @@ use mathlib.Core.Path.{_≡_, refl, ap, ap₂}
 use mathlib.Core.List.{List, [], _∷_, _++_}
 use Rattle.tables.specs.declared.Head.{Head}
 use Rattle.tables.specs.Table.{lineCount}
-use Rattle.compose.specs.Items.{Inputs}
 use Rattle.group_text.specs.Groups.{joinFrom, ownBytes, groupBytes}
 use Rattle.layout.specs.Layout.{Due}
 use Rattle.layout.specs.Lines.{linesFrom, linesOf}
-use Rattle.pages.specs.Bytes.{dueBytes}
+use Rattle.call_text.specs.Bytes.{Reading, inputsOf, viewOf, dueBytes}
 use Rattle.book.specs.Sheet.{recordsFrom, sheetOf}
 
 -- the lines of a group, and of all groups due, by their numbers
-module _ (h : Head) (t : List ℕ) (inp : Inputs) where
-  lines-same : (u : Due) (n k : ℕ) → joinFrom n k (ownBytes h t inp (u .kept) (u .page) (u .at) (u .group)) ≡ recordsFrom h t inp u (linesFrom h t (u .group) (u .at) n k) k
+module _ (h : Head) (t : List ℕ) (rd : Reading) where
+  lines-same : (u : Due) (n k : ℕ) → joinFrom n k (ownBytes h t (inputsOf rd) (viewOf rd u) (u .group)) ≡ recordsFrom h t rd u (linesFrom h t (u .group) (u .at) n k) k
   unfolding joinFrom linesFrom recordsFrom
   lines-same u zero k = refl
-  lines-same u (suc n) k = ap (λ (l : List ℕ). ownBytes h t inp (u .kept) (u .page) (u .at) (u .group) k ++ l) (lines-same u n (k + 1))
+  lines-same u (suc n) k = ap (λ (l : List ℕ). ownBytes h t (inputsOf rd) (viewOf rd u) (u .group) k ++ l) (lines-same u n (k + 1))
 
-  pub sheet-same : (us : List Due) → dueBytes h t inp us ≡ sheetOf h t inp us
+  pub sheet-same : (us : List Due) → dueBytes h t rd us ≡ sheetOf h t rd us
   unfolding dueBytes groupBytes linesOf sheetOf
   sheet-same [] = refl
   sheet-same (u ∷ us) = ap₂ _++_ (lines-same u (lineCount h t (u .group)) 0) (sheet-same us)

@@ -25,13 +25,15 @@ use Rattle.rows.proofs.Fields.{first-malformed}
 use Rattle.rows.proofs.Breaks.{break-values, break-none}
 use Rattle.sums.proofs.Range.{getD-set}
 use Rattle.amounts.specs.Totals.{totalsLast}
-use Rattle.compose.specs.Items.{Inputs}
 use Rattle.compose.specs.Facts.{ItemsIn}
 use Rattle.plan.specs.Plan.{firstPlan, laterPlan, lastPlan}
 use Rattle.layout.specs.declared.Pos.{Pos}
 use Rattle.layout.specs.Layout.{layout}
 use Rattle.place.specs.Place.{lastPage}
-use Rattle.pages.proofs.Bytes.{in-layout}
+use Rattle.call_text.specs.Bytes.{Reading}
+use Rattle.call_text.proofs.Bytes.{in-layout}
+use Rattle.printed.specs.Printed.{Short}
+use Rattle.printed.proofs.Laws.{no-prefix-short}
 use Rattle.pagination.specs.Rising.{rank}
 use Rattle.pagination.specs.Claims.{rankAt, Placed, Closed}
 use Rattle.pagination.proofs.Groups.{sound-none}
@@ -136,12 +138,12 @@ module _ (d : List ℕ) (accepts : checked d ≡ Accepted) (A : facts.Accepted (
         fresh : s ≡ freshAt 1
         fresh = T .begins e .0
 
-        laid1 : w1 .laid ≡ layout h t true (firstPlan h (theDetail h t i)) false (placeOf s)
+        laid1 : w1 .laid ≡ layout h t (firstPlan h (theDetail h t i)) (placeOf s)
         unfolding firstWork
         laid1 = refl
 
         placed1 : Placed h t (b .report) (placeOf s) (w1 .laid)
-        placed1 = rw laid1 (first-placed h t (b .report) (A .pageFits) (firstPlan h (theDetail h t i)) (placeOf s) detail-ok (ap (λ (x : State). x .page) fresh) (ap (λ (x : State). x .line) fresh))
+        placed1 = rw laid1 (first-placed h t (b .report) (A .pageFits) (theDetail h t i) (placeOf s) detail-ok (ap (λ (x : State). x .page) fresh) (ap (λ (x : State). x .line) fresh))
 
         same1 : w1 .laid ≡ dueFor h t (b .row) call (b .pos)
         same1 = rw (T .begins e .1, T .place) laid1
@@ -182,12 +184,16 @@ module _ (d : List ℕ) (accepts : checked d ≡ Accepted) (A : facts.Accepted (
           goes = λ q. (row, refl, kept1);
         }
 
+        short1 : Short (w1 .inputs .prefix)
+        unfolding firstWork
+        short1 = no-prefix-short
+
         items1 : ItemsIn h t (w1 .inputs .lits)
         unfolding firstWork
         items1 = A .itemsIn
 
         pub first-ok : Ok d Tracks s b call (w1 .inputs) (settled h t s w1 out)
-        first-ok = settled-ok d Tracks b call (w1 .inputs) s out T w1 same1 refl items1 (rw laid1 (in-layout h t true (firstPlan h (theDetail h t i)) false (placeOf s))) (rw (T .place) (placed1 .sound)) refl refl
+        first-ok = settled-ok d Tracks b call (w1 .inputs) s out T w1 same1 refl items1 short1 (rw laid1 (in-layout h t (firstPlan h (theDetail h t i)) (placeOf s))) (rw (T .place) (placed1 .sound)) refl refl
             (λ q. absurd (omega arith)) (rw (T .place) (omega (arith, ap (λ (x : State). x .page) fresh))) _ (rw (T .place) (placed1 .paged)) (inr refl) next1
 
       -- a later row
@@ -204,12 +210,12 @@ module _ (d : List ℕ) (accepts : checked d ≡ Accepted) (A : facts.Accepted (
         abbrev level : ℕ
         level = breakLevel h t (s .kept) row
 
-        laid2 : w2 .laid ≡ layout h t false (laterPlan h level (theDetail h t i)) false (placeOf s)
+        laid2 : w2 .laid ≡ layout h t (laterPlan h level (theDetail h t i)) (placeOf s)
         unfolding laterWork
         laid2 = refl
 
         placed2 : Placed h t (b .report) (placeOf s) (w2 .laid)
-        placed2 = rw laid2 (later-placed h t (b .report) (A .pageFits) (laterPlan h level (theDetail h t i)) (placeOf s) detail-ok (facts2 .spot))
+        placed2 = rw laid2 (later-placed h t (b .report) (A .pageFits) level (theDetail h t i) (placeOf s) detail-ok (facts2 .spot))
 
         -- the book finds the break against its own row
         same2 : w2 .laid ≡ dueFor h t (b .row) call (b .pos)
@@ -255,12 +261,16 @@ module _ (d : List ℕ) (accepts : checked d ≡ Accepted) (A : facts.Accepted (
           goes = λ q. (row, refl, kept2);
         }
 
+        short2 : Short (w2 .inputs .prefix)
+        unfolding laterWork
+        short2 = no-prefix-short
+
         items2 : ItemsIn h t (w2 .inputs .lits)
         unfolding laterWork
         items2 = A .itemsIn
 
         pub later-ok : Ok d Tracks s b call (w2 .inputs) (settled h t s w2 out)
-        later-ok = settled-ok d Tracks b call (w2 .inputs) s out T w2 same2 refl items2 (rw laid2 (in-layout h t false (laterPlan h level (theDetail h t i)) false (placeOf s))) (rw (T .place) (placed2 .sound)) refl refl
+        later-ok = settled-ok d Tracks b call (w2 .inputs) s out T w2 same2 refl items2 short2 (rw laid2 (in-layout h t (laterPlan h level (theDetail h t i)) (placeOf s))) (rw (T .place) (placed2 .sound)) refl refl
             (λ q. absurd (omega arith)) (rw (T .place) (facts2 .page1)) _ (rw (T .place) (placed2 .paged)) (inr refl) next2
 
       -- the row's work, by phase
@@ -270,7 +280,7 @@ module _ (d : List ℕ) (accepts : checked d ≡ Accepted) (A : facts.Accepted (
           (λ e. rw e (first-ok (eqb-true (s .phase) 1 e)))
           (λ e. rw e (later-ok (two (s .phase) (L .phase-listed s (T .kept)) (eqb-false (s .phase) 0 n) (eqb-false (s .phase) 1 e))))
 
-    no-ok : (c : Call) (reading : Inputs) (v : Verdict) → 3 ≤ number v → number v ≤ 9 → eqb (number v) 0 ≡ false → Ok d Tracks s b c reading (refuse s out v)
+    no-ok : (c : Call) (reading : Reading) (v : Verdict) → 3 ≤ number v → number v ≤ 9 → eqb (number v) 0 ≡ false → Ok d Tracks s b c reading (refuse s out v)
     no-ok c reading v l m e = refused-ok d Tracks b c reading s out T v l m e
 
     pub generate-ok : (i : ℕ) (row : List ℕ) → Ok d Tracks s b (generate i row) (reads d s (generate i row)) (answer d s (generate i row) out)
@@ -308,7 +318,7 @@ module _ (d : List ℕ) (accepts : checked d ≡ Accepted) (A : facts.Accepted (
       facts3 : RunFacts h t s
       facts3 = L .run-facts s e (T .kept)
 
-      laid3 : w3 .laid ≡ layout h t false (lastPlan h) true (placeOf s)
+      laid3 : w3 .laid ≡ layout h t (lastPlan h) (placeOf s)
       unfolding lastWork
       laid3 = refl
 
@@ -339,6 +349,10 @@ module _ (d : List ℕ) (accepts : checked d ≡ Accepted) (A : facts.Accepted (
       unfolding lastWork
       long3 = last3 .long
 
+      short3 : Short (w3 .inputs .prefix)
+      unfolding lastWork
+      short3 = no-prefix-short
+
       items3 : ItemsIn h t (w3 .inputs .lits)
       unfolding lastWork
       items3 = A .itemsIn
@@ -346,7 +360,7 @@ module _ (d : List ℕ) (accepts : checked d ≡ Accepted) (A : facts.Accepted (
       pub last-ok : Ok d Tracks s b terminate (w3 .inputs) (settled h t s w3 out)
       last-ok =
           let page-is : b .pos .page ≡ s .page = ap (λ (x : Pos). x .page) (T .place) in
-          settled-ok d Tracks b terminate (w3 .inputs) s out T w3 same3 refl items3 (rw laid3 (in-layout h t false (lastPlan h) true (placeOf s))) (rw (T .place) (closed3 .sound)) refl refl
+          settled-ok d Tracks b terminate (w3 .inputs) s out T w3 same3 refl items3 short3 (rw laid3 (in-layout h t (lastPlan h) (placeOf s))) (rw (T .place) (closed3 .sound)) refl refl
           (λ q. absurd (omega arith)) (rw (T .place) (facts3 .page1)) (closed3 .bodyPage) (λ u v m n. closed3 .paged u v (m ∙ page-is) (n ∙ page-is)) (inl phase3)
           (λ o l. idle-tracks (moved w3 (w3 .laid .to)) _ phase3 (idle3 l) long3 refl)
 

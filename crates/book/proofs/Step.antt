@@ -16,12 +16,12 @@ use Rattle.tables.specs.Head.{headOf}
 use Rattle.tables.specs.Table.{table}
 use Rattle.description.specs.declared.Checked.the-variants.{Accepted}
 use Rattle.accepted.specs.Accepted as facts
-use Rattle.compose.specs.Items.{Inputs}
+use Rattle.printed.specs.Printed.{Short}
 use Rattle.compose.specs.Facts.{ItemsIn}
 use Rattle.layout.specs.declared.Pos.{Pos}
 use Rattle.layout.specs.Layout.{Due}
-use Rattle.pages.specs.Bytes.{dueBytes, byteCount}
-use Rattle.pages.proofs.Bytes.{GroupsIn, printed-part}
+use Rattle.call_text.specs.Bytes.{Reading, dueBytes, byteCount}
+use Rattle.call_text.proofs.Bytes.{GroupsIn, printed-part}
 use Rattle.place.specs.Place.{lastPage}
 use Rattle.pages.specs.Outcome.{pastLast, tooShort, outcome, written}
 use Rattle.pagination.specs.All.{All}
@@ -52,7 +52,7 @@ module _ (d : List ℕ) where
   Fine n = (n ≡ 0) ⊎ (3 ≤ n) × (n ≤ 9)
 
   -- what one call must show, for the book's entry and whatever invariant is carried
-  pub record Ok (Inv : State → Book → Type 0) (s : State) (b : Book) (c : Call) (reading : Inputs) (r : Result) : Type 0 where
+  pub record Ok (Inv : State → Book → Type 0) (s : State) (b : Book) (c : Call) (reading : Reading) (r : Result) : Type 0 where
     pub fine : Fine (number (r .answer .verdict))
     pub bytes : take (r .answer .count) (r .out) ≡ sheetOf h t reading (enter h t b c (taken d r) .dues)
     pub sound : Sound h t (enter h t b c (taken d r) .report) (rankAt (b .report) (b .pos)) (rankAt (enter h t b c (taken d r) .next .report) (enter h t b c (taken d r) .next .pos)) (enter h t b c (taken d r) .dues)
@@ -60,7 +60,7 @@ module _ (d : List ℕ) where
     pub moves : Moves h t s b (r .answer .state) (enter h t b c (taken d r) .next) (enter h t b c (taken d r) .dues)
     pub next : Inv (r .answer .state) (enter h t b c (taken d r) .next)
 
-  module _ (Inv : State → Book → Type 0) (b : Book) (c : Call) (reading : Inputs) (s : State) (out : List ℕ) (inv : Inv s b) where
+  module _ (Inv : State → Book → Type 0) (b : Book) (c : Call) (reading : Reading) (s : State) (out : List ℕ) (inv : Inv s b) where
     -- a refusal changes nothing
     pub refused-ok : (v : Verdict) → 3 ≤ number v → number v ≤ 9 → eqb (number v) 0 ≡ false → Ok Inv s b c reading (refuse s out v)
     unfolding enter sheetOf
@@ -75,17 +75,17 @@ module _ (d : List ℕ) where
         }
 
     -- a call that prints: 7, 8 and 9, else the groups due by the book
-    module _ (w : Work) (same : w .laid ≡ dueFor h t (b .row) c (b .pos)) (read : reading ≡ w .inputs) (items : ItemsIn h t (w .inputs .lits)) (groups : GroupsIn h (w .laid .dues))
+    module _ (w : Work) (same : w .laid ≡ dueFor h t (b .row) c (b .pos)) (read : reading ≡ w .inputs) (items : ItemsIn h t (w .inputs .lits)) (short : Short (w .inputs .prefix)) (groups : GroupsIn h (w .laid .dues))
         (sound : Sound h t (b .report) (rankAt (b .report) (b .pos)) (rankAt (b .report) (w .laid .to)) (w .laid .dues))
         (stays : turned h t b c (w .laid) .report ≡ b .report) (place : turned h t b c (w .laid) .pos ≡ w .laid .to)
         (busy : s .phase ≡ 0 → ⊥) (low : 1 ≤ b .pos .page)
         (q : ℕ) (walk : (u v : Due) → u .page ≡ b .pos .page → v .page ≡ b .pos .page → Walk h t u v (w .laid .dues) (w .laid .to .page) q) (over : (w .phase ≡ 0) ⊎ (q ≡ w .laid .to .page))
         (next : w .ok ≡ true → w .laid .to .page ≤ lastPage → Inv (moved w (w .laid .to)) (turned h t b c (w .laid))) where
-      done-ok : w .ok ≡ true → w .laid .to .page ≤ lastPage → Ok Inv s b c reading (record { answer = record { verdict = verdict.Accepted; count = byteCount h t (w .laid .dues); state = moved w (w .laid .to) }; out = splice out 0 (dueBytes h t (w .inputs) (w .laid .dues)) })
+      done-ok : w .ok ≡ true → w .laid .to .page ≤ lastPage → Ok Inv s b c reading (record { answer = record { verdict = verdict.Accepted; count = byteCount h t (w .inputs .prefix) (w .laid .dues); state = moved w (w .laid .to) }; out = splice out 0 (dueBytes h t (w .inputs) (w .laid .dues)) })
       unfolding enter
       done-ok o l = record {
         fine = inl refl;
-        bytes = rw (← same, read) (printed-part h t (w .inputs) items groups out ∙ sheet-same h t (w .inputs) (w .laid .dues));
+        bytes = rw (← same, read) (printed-part h t (w .inputs) items short groups out ∙ sheet-same h t (w .inputs) (w .laid .dues));
         sound = rw (← same, stays, place) sound;
         pages =
             rw (← same)
@@ -100,7 +100,7 @@ module _ (d : List ℕ) where
           by-test (w .ok)
           (λ o. by-test (pastLast (w .laid))
           (λ p. rw (o, p) (refused-ok verdict.Pages (omega arith) (omega arith) refl))
-          (λ p. by-test (tooShort h t (length out) (w .laid))
+          (λ p. by-test (tooShort h t (w .inputs .prefix) (length out) (w .laid))
           (λ q. rw (o, p, q) (refused-ok verdict.Room (omega arith) (omega arith) refl))
           (λ q. rw (o, p, q) (done-ok o (ltb-false lastPage (w .laid .to .page) p)))))
           (λ o. rw o (refused-ok verdict.Sum (omega arith) (omega arith) refl))

@@ -35,10 +35,10 @@ module _ (h : Head) (t : List ℕ) where
   -- for a body group makes PF, then PH, due before it."
   abbrev pub dueFor : Option (List ℕ) → Call → Pos → Laid
   dueFor last initiate s = nothing s
-  dueFor none (generate d row) s = layout h t true (firstPlan h (theDetail h t d)) false s
-  dueFor (some old) (generate d row) s = layout h t false (laterPlan h (breakLevel h t old row) (theDetail h t d)) false s
+  dueFor none (generate d row) s = layout h t (firstPlan h (theDetail h t d)) s
+  dueFor (some old) (generate d row) s = layout h t (laterPlan h (breakLevel h t old row) (theDetail h t d)) s
   dueFor none terminate s = nothing s
-  dueFor (some old) terminate s = layout h t false (lastPlan h) true s
+  dueFor (some old) terminate s = layout h t (lastPlan h) s
 
   -- "INITIATE begins a report, fresh, with no row."
   abbrev pub turned : Book → Call → Laid → Book

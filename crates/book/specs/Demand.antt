@@ -8,7 +8,8 @@ use lib.ListN.{take}
 use Rattle.tables.specs.declared.Head.{Head}
 use Rattle.tables.specs.Head.{headOf}
 use Rattle.tables.specs.Table.{table, literals}
-use Rattle.compose.specs.Items.{Inputs, inputs}
+use Rattle.printed.specs.Printed.{noPrefix}
+use Rattle.call_text.specs.Bytes.{Reading, reading}
 use Rattle.place.specs.Place.{lastPage}
 use Rattle.pagination.specs.All.{All}
 use Rattle.pagination.specs.Rising.{Rises}
@@ -41,14 +42,14 @@ module _ (d : List ℕ) where
   answer s terminate out = calls.terminate d s out
 
   -- what the call's items read, by demand 2's definition
-  abbrev pub reads : State → Call → Inputs
-  reads s initiate = inputs [] [] [] [] false
+  abbrev pub reads : State → Call → Reading
+  reads s initiate = reading [] [] [] [] false noPrefix
   reads s (generate i row) = rowWork h t (literals d) s i row .inputs
   reads s terminate = lastWork h t (literals d) s .inputs
 
   pub record Done : Type 0 where
     pub call : Call
-    pub reading : Inputs
+    pub reading : Reading
     pub result : Result
 
   abbrev pub did : State → Use → Done

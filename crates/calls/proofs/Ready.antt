@@ -20,14 +20,16 @@ use Rattle.sums.specs.declared.Totals.{Totals}
 use Rattle.sums.specs.Facts.{Adding, CountersIn}
 use Rattle.amounts.specs.Totals.{fresh, totalsFirst, totalsLater, totalsLast}
 use Rattle.amounts.proofs.Good.{GoodSums, GoodTotals, first-good, later-good, last-good}
-use Rattle.compose.specs.Items.{inputs}
 use Rattle.place.specs.Place.{lastPage}
+use Rattle.printed.specs.Printed.{noPrefix}
+use Rattle.printed.proofs.Laws.{no-prefix-short}
+use Rattle.call_text.specs.Bytes.{reading}
 use Rattle.plan.specs.declared.Plan.{Plan}
 use Rattle.plan.specs.Plan.{firstPlan, laterPlan, lastPlan}
 use Rattle.plan.specs.Facts.{Planned}
 use Rattle.layout.specs.declared.Pos.{Pos}
 use Rattle.layout.specs.Facts.{Called}
-use Rattle.pages.specs.Facts.{Printable}
+use Rattle.call_text.specs.Facts.{Printable}
 use Rattle.state.specs.declared.State.{State}
 use Rattle.state.specs.State.{started, running, freshAt}
 use Rattle.state.specs.Facts.{Testable, RunningState}
@@ -72,8 +74,12 @@ module _ (h : Head) (t lits : List ℕ) (A : Accepted h t lits) where
   pub last-planned : Planned h (lastPlan h)
   last-planned = record { level = omega arith; feet = A .controls8; heads = omega arith; detail = omega arith }
 
-  pub printable : (kept row : List ℕ) (sums : List ℤ) (flag : Bool) → Formed h t kept → Formed h t row → length sums ≡ 32 → Printable h t (inputs lits kept row sums flag)
-  printable kept row sums flag k r n = record { items = A .itemsIn; readable = record { kept = k; row = r; sums = n } }
+  pub printable : (kept row : List ℕ) (sums : List ℤ) (flag : Bool) → Formed h t kept → Formed h t row → length sums ≡ 32 → Printable h t (reading lits kept row sums flag noPrefix)
+  printable kept row sums flag k r n = record {
+    items = A .itemsIn;
+    readable = record { kept = k; row = r; sums = omega (arith, A .countersIn .few) };
+    prefix = no-prefix-short;
+  }
 
   -- ---- a started state and its first row
   module _ (s : State) (S : Stands h t lits s) (d : ℕ) (row : List ℕ) (R : RowIn h t d row) where
@@ -96,12 +102,15 @@ module _ (h : Head) (t lits : List ℕ) (A : Accepted h t lits) where
       pub first-called : (g : ℕ) → g ≤ h .groups → Called h t (firstPlan h g) (placeOf s)
       first-called g l = called (firstPlan h g) (placeOf s) (first-planned g l) (omega (arith, ap (λ (x : State). x .page) fresh-one))
 
-      pub first-printable : Printable h t (inputs lits (paddedRow row) row (totalsFirst h t row d (s .sums) .shown) true)
+      pub first-long : length (totalsFirst h t row d (s .sums) .shown) ≡ 32
+      first-long = first-good h t (A .countersIn .few) (s .sums) zero-sums row d .long
+
+      pub first-printable : Printable h t (reading lits (paddedRow row) row (totalsFirst h t row d (s .sums) .shown) true noPrefix)
       first-printable =
           printable (paddedRow row) row (totalsFirst h t row d (s .sums) .shown) true
           (padded-whole row (A .fieldsIn) (omega (arith, R .long)) (omega (arith, R .long, A .record256)) (R .good))
           row-in
-          (first-good h t (A .countersIn .few) (s .sums) zero-sums row d .long)
+          first-long
 
   -- ---- a running state
   module _ (s : State) (S : Stands h t lits s) (e : s .phase ≡ running) where
@@ -124,8 +133,11 @@ module _ (h : Head) (t lits : List ℕ) (A : Accepted h t lits) where
     pub last-called : Called h t (lastPlan h) (placeOf s)
     last-called = called (lastPlan h) (placeOf s) last-planned (facts .last)
 
-    pub last-printable : Printable h t (inputs lits (s .kept) (s .kept) (totalsLast h t (s .sums) .shown) false)
-    last-printable = printable (s .kept) (s .kept) (totalsLast h t (s .sums) .shown) false kept-in kept-in (last-good h t (A .countersIn .few) (s .sums) good .long)
+    pub last-long : length (totalsLast h t (s .sums) .shown) ≡ 32
+    last-long = last-good h t (A .countersIn .few) (s .sums) good .long
+
+    pub last-printable : Printable h t (reading lits (s .kept) (s .kept) (totalsLast h t (s .sums) .shown) false noPrefix)
+    last-printable = printable (s .kept) (s .kept) (totalsLast h t (s .sums) .shown) false kept-in kept-in last-long
 
     -- and its row
     module _ (d : ℕ) (row : List ℕ) (R : RowIn h t d row) where
@@ -138,6 +150,9 @@ module _ (h : Head) (t lits : List ℕ) (A : Accepted h t lits) where
       pub later-called : (b g : ℕ) → b ≤ h .controls → g ≤ h .groups → Called h t (laterPlan h b g) (placeOf s)
       later-called b g m l = called (laterPlan h b g) (placeOf s) (later-planned b g m l) (facts .last)
 
-      pub later-printable : (b : ℕ) (flag : Bool) → Printable h t (inputs lits (s .kept) row (totalsLater h t row d b (s .sums) .shown) flag)
+      pub later-long : (b : ℕ) → length (totalsLater h t row d b (s .sums) .shown) ≡ 32
+      later-long b = later-good h t (A .countersIn .few) (s .sums) good row d b .long
+
+      pub later-printable : (b : ℕ) (flag : Bool) → Printable h t (reading lits (s .kept) row (totalsLater h t row d b (s .sums) .shown) flag noPrefix)
       later-printable b flag =
-          printable (s .kept) row (totalsLater h t row d b (s .sums) .shown) flag kept-in (row-formed d row R) (later-good h t (A .countersIn .few) (s .sums) good row d b .long)
+          printable (s .kept) row (totalsLater h t row d b (s .sums) .shown) flag kept-in (row-formed d row R) (later-long b)

@@ -10,9 +10,7 @@ use Rattle.lookup.specs.Find.{theDetail, details}
 use Rattle.rows.specs.Breaks.{breakLevel}
 use Rattle.sums.specs.declared.Totals.{Totals}
 use Rattle.amounts.specs.Totals.{totalsFirst, totalsLater, totalsLast}
-use Rattle.compose.specs.Items.{inputs}
 use Rattle.plan.specs.Plan.{firstPlan, laterPlan, lastPlan}
-use Rattle.layout.specs.Layout.{layout}
 use Rattle.state.specs.declared.State.{State}
 use Rattle.state.specs.State.{idle, started, running, freshAt}
 use Rattle.state.specs.Rules.{stateOk}
@@ -22,7 +20,7 @@ use Rattle.refusals.specs.declared.Tried.the-variants.{Passed, Refused}
 use Rattle.refusals.specs.Stages.{startIn, begunIn, rowIn}
 use Rattle.calls.specs.declared.Asked.{Asked}
 use Rattle.calls.specs.declared.Asked.the-variants.{Initiate, Generate, Terminate}
-use Rattle.calls.specs.Result.{Result, refuse, accepted, placeOf, Work, work, settled}
+use Rattle.calls.specs.Result.{Result, refuse, accepted, jobOf, Work, prepared, settled}
 
 -- ---- flags
 -- "Printing a detail that has lines clears its flag."
@@ -32,10 +30,14 @@ cleared h t d flags = cond (eqb (lineCount h t (theDetail h t d)) 0) flags (set 
 -- ---- the work of each call
 -- "First GENERATE: phase running, keep the record, set each detail's indicate flag; RH, PH, all CH senior to junior; then subtotal; then the detail."
 abbrev pub firstWith : Head → List ℕ → List ℕ → State → ℕ → List ℕ → Totals → Work
-firstWith h t lits s d row totals =
-    work totals (layout h t true (firstPlan h (theDetail h t d)) false (placeOf s)) (inputs lits (paddedRow row) row (totals .shown) true) running
-    (cleared h t d (flagsSet (details h t)))
-    (paddedRow row)
+firstWith h t lits s d row totals = prepared h t lits (paddedRow row) row (record {
+  state = s;
+  totals = totals;
+  job = jobOf s (firstPlan h (theDetail h t d)) true;
+  phase = running;
+  flags = cleared h t d (flagsSet (details h t));
+  kept = paddedRow row;
+})
 
 unfoldable pub firstWork : Head → List ℕ → List ℕ → State → ℕ → List ℕ → Work
 firstWork h t lits s d row = firstWith h t lits s d row (totalsFirst h t row d (s .sums))
@@ -49,12 +51,14 @@ abbrev pub flagsAt : Head → List ℕ → ℕ → List Bool → List Bool
 flagsAt h t b flags = cond (breaks h b) (flagsSet (details h t)) flags
 
 abbrev pub laterWith : Head → List ℕ → List ℕ → State → ℕ → List ℕ → ℕ → Totals → Work
-laterWith h t lits s d row b totals =
-    work totals (layout h t false (laterPlan h b (theDetail h t d)) false (placeOf s))
-    (inputs lits (s .kept) row (totals .shown) (getD (flagsAt h t b (s .flags)) d false))
-    running
-    (cleared h t d (flagsAt h t b (s .flags)))
-    (cond (breaks h b) (paddedRow row) (s .kept))
+laterWith h t lits s d row b totals = prepared h t lits (s .kept) row (record {
+  state = s;
+  totals = totals;
+  job = jobOf s (laterPlan h b (theDetail h t d)) (getD (flagsAt h t b (s .flags)) d false);
+  phase = running;
+  flags = cleared h t d (flagsAt h t b (s .flags));
+  kept = cond (breaks h b) (paddedRow row) (s .kept);
+})
 
 abbrev pub laterAt : Head → List ℕ → List ℕ → State → ℕ → List ℕ → ℕ → Work
 laterAt h t lits s d row b = laterWith h t lits s d row b (totalsLater h t row d b (s .sums))
@@ -67,8 +71,14 @@ rowWork h t lits s d row = cond (eqb (s .phase) started) (firstWork h t lits s d
 
 -- "TERMINATE .. when running: break at level 0, all CFs, then PF, RF; idle after, the rest as these steps leave it."
 abbrev pub lastWith : Head → List ℕ → List ℕ → State → Totals → Work
-lastWith h t lits s totals =
-    work totals (layout h t false (lastPlan h) true (placeOf s)) (inputs lits (s .kept) (s .kept) (totals .shown) false) idle (s .flags) (s .kept)
+lastWith h t lits s totals = prepared h t lits (s .kept) (s .kept) (record {
+  state = s;
+  totals = totals;
+  job = jobOf s (lastPlan h) false;
+  phase = idle;
+  flags = s .flags;
+  kept = s .kept;
+})
 
 unfoldable pub lastWork : Head → List ℕ → List ℕ → State → Work
 lastWork h t lits s = lastWith h t lits s (totalsLast h t (s .sums))

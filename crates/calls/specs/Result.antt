@@ -6,10 +6,12 @@ use mathlib.Core.List.{List}
 use lib.IntN.{ℤ}
 use lib.ListN.{length}
 use Rattle.tables.specs.declared.Head.{Head}
-use Rattle.sums.specs.declared.Totals.{Totals}
-use Rattle.compose.specs.Items.{Inputs}
+use Rattle.printed.specs.Printed.{noPrefix}
+use Rattle.plan.specs.declared.Plan.{Plan}
 use Rattle.layout.specs.declared.Pos.{Pos}
-use Rattle.layout.specs.Layout.{Laid}
+use Rattle.layout.specs.Layout.{Laid, layout}
+use Rattle.call_text.specs.Bytes.{Reading, reading}
+use Rattle.pages.specs.declared.Job.{Job}
 use Rattle.pages.specs.declared.Outcome.{Outcome}
 use Rattle.pages.specs.declared.Outcome.the-variants.{Done, PageLimit, NoRoom}
 use Rattle.pages.specs.Outcome.{outcome, written}
@@ -17,6 +19,7 @@ use Rattle.state.specs.declared.State.{State}
 use Rattle.refusals.specs.declared.Verdict.{Verdict}
 use Rattle.refusals.specs.declared.Verdict.the-variants.{Accepted, Sum, Pages, Room}
 use Rattle.calls.specs.declared.Answer.{Answer}
+use Rattle.calls.specs.declared.Prepared.{Prepared}
 
 pub record Result : Type 0 where
   pub answer : Answer
@@ -37,26 +40,31 @@ accepted s = record { verdict = Accepted; count = 0; state = s }
 abbrev pub placeOf : State → Pos
 placeOf s = record { page = s .page; spot = record { line = s .line; seen = s .seen; saved = s .saved } }
 
+-- what is printed of a plan from the state's place on: nothing stands in front of the records
+abbrev pub jobOf : State → Plan → Bool → Job
+jobOf s p flag = record { plan = p; pos = placeOf s; flag = flag; prefix = noPrefix }
+
 -- what a call has worked out before it prints: whether every addition stayed in range, the layout, what the items read, and the parts of the next
 -- state that the layout does not give
 pub record Work : Type 0 where
   pub ok : Bool
   pub laid : Laid
-  pub inputs : Inputs
+  pub inputs : Reading
   pub phase : ℕ
   pub sums : List ℤ
   pub flags : List Bool
   pub kept : List ℕ
 
-abbrev pub work : Totals → Laid → Inputs → ℕ → List Bool → List ℕ → Work
-work totals laid inputs phase flags kept = record {
-  ok = totals .ok;
-  laid = laid;
-  inputs = inputs;
-  phase = phase;
-  sums = totals .sums;
-  flags = flags;
-  kept = kept;
+-- the same from the parts that the code holds
+abbrev pub prepared : Head → List ℕ → List ℕ → List ℕ → List ℕ → Prepared → Work
+prepared h t lits kept row w = record {
+  ok = w .totals .ok;
+  laid = layout h t (w .job .plan) (w .job .pos);
+  inputs = reading lits kept row (w .totals .shown) (w .job .flag) (w .job .prefix);
+  phase = w .phase;
+  sums = w .totals .sums;
+  flags = w .flags;
+  kept = w .kept;
 }
 
 -- the next state, at a place
@@ -85,7 +93,7 @@ answered s next NoRoom = refusal s Room
 unfoldable pub settled : Head → List ℕ → State → Work → List ℕ → Result
 settled h t s w out =
     cond (w .ok)
-    (record { answer = answered s (moved w) (outcome h t (length out) (w .laid)); out = written h t (w .inputs) out (w .laid) })
+    (record { answer = answered s (moved w) (outcome h t (w .inputs .prefix) (length out) (w .laid)); out = written h t (w .inputs) out (w .laid) })
     (refuse s out Sum)
 
 -- what a call returns and leaves is a result

@@ -5,18 +5,18 @@ ghost use Prim.Native.Nat.{_≤_, _<_};
 ghost use lib.ListN.{length};
 ghost use Rattle.lookup.specs.Find.{theDetail};
 ghost use Rattle.rows.specs.Facts.{FieldsIn};
-ghost use Rattle.compose.specs.Items.{inputs};
-ghost use Rattle.layout.specs.Layout.{layout as layoutSpec};
 ghost use Rattle.layout.specs.Facts.{Called};
-ghost use Rattle.pages.specs.Facts.{Printable};
+ghost use Rattle.call_text.specs.Bytes.{reading};
+ghost use Rattle.call_text.specs.Facts.{Printable};
 ghost use Rattle.accepted.specs.Accepted.{Accepted};
 ghost use Rattle.state.specs.State.{started, running, keptSize};
 ghost use Rattle.state.specs.Kept.{paddedRow};
 ghost use Rattle.refusals.specs.Facts.{RowIn};
-ghost use Rattle.calls.specs.Result.{placeOf, refusal as refusalSpec, accepted as acceptedSpec, at, answered, work, settled, Returns};
+ghost use Rattle.calls.specs.Result.{placeOf, jobOf, refusal as refusalSpec, accepted as acceptedSpec, at, answered, prepared, settled, Returns};
 ghost use Rattle.calls.specs.Calls.{cleared as clearedSpec, breaks, flagsAt, firstWork, laterWork, lastWork, triedIn, callOn};
 ghost use Rattle.calls.specs.Facts.{Stands};
 use layout::Pos;
+use pages::Job;
 use pages::Outcome;
 use place::Spot;
 use plan::Plan;
@@ -129,48 +129,57 @@ fn cleared(
     next
 }
 
+// What a call has worked out before it prints: the state handed in, the totals, what is to be printed, and the parts of the
+// next state that the printing does not give.
+pub struct Prepared {
+    pub state: State,
+    pub totals: Totals,
+    pub job: Job,
+    pub phase: u8,
+    pub flags: [bool; state::FLAG_COUNT],
+    pub kept: [u8; state::KEPT_SIZE],
+}
+
 // The work of a call, tried and printed: refusals 7, 8 and 9 before the first byte.
 fn run<'a>(
     t: &[u16],
     h: Head,
     lits: &[u8],
-    s: State,
-    totals: Totals,
     kept: &'a [u8],
     row: &'a [u8],
-    flag: bool,
-    opens: bool,
-    p: Plan,
-    closes: bool,
-    phase: u8,
-    flags: [bool; state::FLAG_COUNT],
-    next: [u8; state::KEPT_SIZE],
+    w: Prepared,
     out: &mut [u8],
 ) -> Answer
-    requires { ⌜ Called h (now t) p (placeOf s) × Printable h (now t) (inputs (now lits) (now kept) (now row) (totals .shown) flag) ⌝ }
-    ensures { λ r. ⌜ Returns (settled h (now (t .entry)) s (work totals (layoutSpec h (now (t .entry)) opens p closes (placeOf s)) (inputs (now (lits .entry)) (now (kept .entry)) (now (row .entry)) (totals .shown) flag) phase flags next) (now (out .entry))) r (now (out .exit)) ⌝ }
+    requires { ⌜ Called h (now t) (w .job .plan) (w .job .pos) × (Printable h (now t) (reading (now lits) (now kept) (now row) (w .totals .shown) (w .job .flag) (w .job .prefix)) × (length (w .totals .shown) ≡ 32)) ⌝ }
+    ensures { λ r. ⌜ Returns (settled h (now (t .entry)) (w .state) (prepared h (now (t .entry)) (now (lits .entry)) (now (kept .entry)) (now (row .entry)) w) (now (out .entry))) r (now (out .exit)) ⌝ }
 {
+    let s = w.state;
+    let totals = w.totals;
     let ok = totals.ok;
     if !ok {
         return refusal(s, Verdict::Sum);
     }
+    let job = w.job;
     let shown = totals.shown;
+    let outcome = pages::call(t, h, lits, kept, row, &shown, job, out);
     let sums = totals.sums;
-    let outcome = pages::call(
-        t,
-        h,
-        lits,
-        kept,
-        row,
-        &shown,
+    let flags = w.flags;
+    let next = w.kept;
+    conclude(s, w.phase, sums, flags, next, outcome)
+}
+
+// What is printed of a plan from the place of a state on.
+fn job_of(s: State, plan: Plan, flag: bool) -> Job
+    ensures { λ r. ⌜ r ≡ jobOf s plan flag ⌝ }
+{
+    let prefix = printed::no_prefix();
+    let pos = place_of(s);
+    Job {
+        plan,
+        pos,
         flag,
-        opens,
-        p,
-        closes,
-        place_of(s),
-        out,
-    );
-    conclude(s, phase, sums, flags, next, outcome)
+        prefix,
+    }
 }
 
 // The first row of a report.
@@ -192,23 +201,16 @@ pub fn first_row(
     let kept = state::padded(rec);
     let next = kept;
     let flags = cleared(t, h, d, group, state::flags_set(lookup::details_of(t, h)));
-    run(
-        t,
-        h,
-        lits,
-        s,
+    let job = job_of(s, plan::first_plan(h, group), true);
+    let w = Prepared {
+        state: s,
         totals,
-        &kept,
-        rec,
-        true,
-        true,
-        plan::first_plan(h, group),
-        false,
-        State::RUNNING,
+        job,
+        phase: State::RUNNING,
         flags,
-        next,
-        out,
-    )
+        kept: next,
+    };
+    run(t, h, lits, &kept, rec, w, out)
 }
 
 // The flags at a break at level `b`: all set; without a break as they were.
@@ -263,21 +265,8 @@ pub fn later_row(
     let before = s.flags;
     let set = flags_at(t, h, b, before);
     let flag = set[d];
-    let from = place_of(s);
-    let outcome = pages::call(
-        t,
-        h,
-        lits,
-        &s.kept,
-        rec,
-        &totals.shown,
-        flag,
-        false,
-        plan::later_plan(h, b, group),
-        false,
-        from,
-        out,
-    );
+    let job = job_of(s, plan::later_plan(h, b, group), flag);
+    let outcome = pages::call(t, h, lits, &s.kept, rec, &totals.shown, job, out);
     let sums = totals.sums;
     let kept = s.kept;
     let flags = cleared(t, h, d, group, set);
@@ -295,23 +284,16 @@ pub fn last_groups(t: &[u16], h: Head, lits: &[u8], s: State, out: &mut [u8]) ->
     let next = s.kept;
     let flags = s.flags;
     let totals = amounts::totals_last(t, h, old);
-    run(
-        t,
-        h,
-        lits,
-        s,
+    let job = job_of(s, plan::last_plan(h), false);
+    let w = Prepared {
+        state: s,
         totals,
-        &kept,
-        &kept,
-        false,
-        false,
-        plan::last_plan(h),
-        true,
-        State::IDLE,
+        job,
+        phase: State::IDLE,
         flags,
-        next,
-        out,
-    )
+        kept: next,
+    };
+    run(t, h, lits, &kept, &kept, w, out)
 }
 
 // Refusals 2 to 6 of what is asked, by whether the state keeps its rules and by its phase.

@@ -7,7 +7,7 @@ use lib.ListN.{length, take, length-append, length-replicate}
 use lib.Seq.{length-take-le}
 use Rattle.figures.proofs.Laws.{length-digits}
 use Rattle.printed.specs.declared.Prefix.{Prefix}
-use Rattle.printed.specs.Printed.{inFront, Short, numbered, printed, recordSize, blanks}
+use Rattle.printed.specs.Printed.{inFront, noPrefix, Short, numbered, printed, recordSize, blanks}
 
 pub length-front : (p : Prefix) → Short p → length (inFront p) ≡ p .len
 length-front p s = length-take-le (p .len) (p .bytes) (omega (arith, s .size, s .few))
@@ -21,6 +21,9 @@ pub length-printed : (p : Prefix) → Short p → (page line w : ℕ) (text : Li
 unfolding printed
 length-printed p s page line w text h =
     simp length-append (omega (arith, length-front p s, length-numbered page line w text, length-take-le w text h))
+
+pub no-prefix-short : Short noPrefix
+no-prefix-short = record { size = length-replicate {A = ℕ} 2 0; few = omega arith }
 
 pub length-blanks : length blanks ≡ 132
 unfolding blanks

@@ -20,7 +20,7 @@ use Rattle.description.specs.declared.Checked.the-variants as checked
 use Rattle.description.specs.Check as check
 use Rattle.pages.specs.declared.Outcome.the-variants.{Done, PageLimit, NoRoom}
 use Rattle.pages.specs.Outcome.{pastLast, tooShort, outcome, written}
-use Rattle.pages.specs.Bytes.{dueBytes, byteCount}
+use Rattle.call_text.specs.Bytes.{dueBytes, byteCount}
 use Rattle.splice.specs.Splice.{splice}
 use Rattle.state.specs.declared.State.{State}
 use Rattle.refusals.specs.declared.Verdict.{Verdict}
@@ -71,8 +71,8 @@ settle-fits true false false s to then o new n e = record { room = ltb-false (le
 settled-fits : (h : Head) (t : List ℕ) (s : State) (w : Work) (o : List ℕ) → Fits o (settled h t s w o)
 unfolding settled outcome written
 settled-fits h t s w o =
-    settle-fits (w .ok) (pastLast (w .laid)) (tooShort h t (length o) (w .laid)) s (w .laid .to) (moved w) o (splice o 0 (dueBytes h t (w .inputs) (w .laid .dues)))
-    (byteCount h t (w .laid .dues))
+    settle-fits (w .ok) (pastLast (w .laid)) (tooShort h t (w .inputs .prefix) (length o) (w .laid)) s (w .laid .to) (moved w) o (splice o 0 (dueBytes h t (w .inputs) (w .laid .dues)))
+    (byteCount h t (w .inputs .prefix) (w .laid .dues))
     refl
 
 unless-fits : (s : State) (o : List ℕ) (r : Result) (t : Tried) → Fits o r → Fits o (unless s o r t)

@@ -1,10 +1,8 @@
 -- `calls::first_row` meets its contract.
 -- Assumes nothing.
-use Prim.Native.Nat.{_<_, _≤_}
-use mathlib.Core.Path.{_≡_, refl, sym, ap, _∙_}
 use native.Mathlib.Omega.{arith}
 use borrow.Author.Needs.{needs}
-use Rattle.calls.proofs.Ready.{detail-few, first-adding, first-called, first-printable}
+use Rattle.calls.proofs.Ready.{detail-few, first-adding, first-called, first-long, first-printable}
 use Rattle.calls.proofs.Works.{first-so}
 use Rattle.calls.proofs.first_row.Statement.{statement}
 use Rattle.calls.proofs.first_row.Tie as tie
@@ -13,22 +11,23 @@ totals-first-requires : tie.Need-totals-first-requires
 totals-first-requires c κs = let p = c .before .before .before .before .before .before .pre in first-adding _ _ _ (p .0 .accepted) _ (p .0) _ _ (p .1 .0) (p .1 .1)
 
 padded-requires : tie.Need-padded-requires
-padded-requires c κs = omega (arith, c .before .before .before .before .before .before .before .pre .1 .0 .long, c .before .before .before .before .before .before .before .pre .0 .accepted .record256)
+padded-requires c κs = let p = c .before .before .before .before .before .before .before .pre in omega (arith, p .1 .0 .long, p .0 .accepted .record256)
 
 cleared-requires : tie.Need-cleared-requires
 cleared-requires c κs =
     let p = c .before .before .before .before .before .before .before .before .before .before .pre in
-    (detail-few _ _ _ (p .0 .accepted) _ _ (p .1 .0), (c .before .before .before .before .before .find-detail .ensures .0, omega (arith, c .before .before .before .before .before .find-detail .ensures .1, p .0 .accepted .groups32)))
+    let f = c .before .before .before .before .before .find-detail .ensures in
+    (detail-few _ _ _ (p .0 .accepted) _ _ (p .1 .0), (f .0, omega (arith, f .1, p .0 .accepted .groups32)))
 
 run-requires : tie.Need-run-requires
 run-requires c κs =
-    let p = c .before .before .before .before .before .before .before .before .before .before .before .before .before .before .pre in
-    rw (c .before .first-plan .ensures, c .before .before .before .before .before .before .before .totals-first .ensures, c .before .before .before .before .before .before .padded .ensures)
-    (first-called _ _ _ (p .0 .accepted) _ (p .0) _ _ (p .1 .0) (p .1 .1) _ (c .before .before .before .before .before .before .before .before .before .find-detail .ensures .1), first-printable _ _ _ (p .0 .accepted) _ (p .0) _ _ (p .1 .0) (p .1 .1))
+    let p = c .before .before .before .before .before .before .before .before .before .before .before .before .before .before .before .pre in
+    rw (c .before .before .job-of .ensures, c .before .before .before .first-plan .ensures, c .before .before .before .before .before .before .before .before .totals-first .ensures, c .before .before .before .before .before .before .before .padded .ensures)
+    (first-called _ _ _ (p .0 .accepted) _ (p .0) _ _ (p .1 .0) (p .1 .1) _ (c .before .before .before .before .before .before .before .before .before .before .find-detail .ensures .1), (first-printable _ _ _ (p .0 .accepted) _ (p .0) _ _ (p .1 .0) (p .1 .1), first-long _ _ _ (p .0 .accepted) _ (p .0) _ _ (p .1 .0) (p .1 .1)))
 
 returns : tie.Need-returns
 returns c =
-    first-so _ _ _ _ _ _ _ _ _ _ _ _ _ _ _ _ (c .before .before .before .before .before .before .before .before .before .before .totals-first .ensures) (c .before .before .before .before .before .before .before .before .before .before .before .before .find-detail .ensures .0) (c .before .before .before .before .first-plan .ensures) (c .before .before .before .before .before .before .before .before .before .padded .ensures) (c .before .before .before .before .before .before .before .before .details-of .ensures .is) (c .before .before .before .before .before .before .before .flags-set .ensures) (c .before .before .before .before .before .before .cleared .ensures) (c .before .before .run .ensures)
+    first-so _ _ _ _ _ _ _ _ _ _ _ _ _ _ _ _ _ (c .before .before .before .before .before .before .before .before .before .before .before .totals-first .ensures) (c .before .before .before .before .before .before .before .before .before .before .before .before .before .find-detail .ensures .0) (c .before .before .before .before .before .before .first-plan .ensures) (c .before .before .before .before .before .job-of .ensures) (c .before .before .before .before .before .before .before .before .before .before .padded .ensures) (c .before .before .before .before .before .before .before .before .before .details-of .ensures .is) (c .before .before .before .before .before .before .before .before .flags-set .ensures) (c .before .before .before .before .before .before .before .cleared .ensures) (c .before .before .run .ensures)
 
 pub first-row-spec : {M : Type 1} → statement M
 first-row-spec =
@@ -40,8 +39,9 @@ first-row-spec =
     (λ c κs. search needs)
     (λ c κs. search needs)
     cleared-requires
-    (λ c. search needs)
     (λ c κs. search needs)
+    (λ c κs. search needs)
+    (λ c. search needs)
     run-requires
     (λ c. search needs)
     returns)

@@ -1,8 +1,8 @@
 -- `calls::last_groups` meets its contract.
 -- Assumes nothing.
-use mathlib.Core.Path.{_≡_, refl, sym, ap, _∙_}
+use mathlib.Core.Path.{sym}
 use borrow.Author.Needs.{needs}
-use Rattle.calls.proofs.Ready.{last-sums, last-called, last-printable}
+use Rattle.calls.proofs.Ready.{last-sums, last-called, last-long, last-printable}
 use Rattle.calls.proofs.Works.{last-so}
 use Rattle.calls.proofs.last_groups.Statement.{statement}
 use Rattle.calls.proofs.last_groups.Tie as tie
@@ -12,11 +12,22 @@ totals-last-requires c κs = let p = c .before .before .before .before .before .
 
 run-requires : tie.Need-run-requires
 run-requires c κs =
-    let p = c .before .before .before .before .before .before .before .before .before .before .before .before .pre in
-    rw (c .before .last-plan .ensures, c .before .before .before .before .totals-last .ensures) (last-called _ _ _ (p .0 .accepted) _ (p .0) (p .1), last-printable _ _ _ (p .0 .accepted) _ (p .0) (p .1))
+    let p = c .before .before .before .before .before .before .before .before .before .before .before .before .before .pre in
+    rw (c .before .before .before .job-of .ensures, c .before .before .before .before .last-plan .ensures, c .before .before .before .before .before .totals-last .ensures)
+    (last-called _ _ _ (p .0 .accepted) _ (p .0) (p .1), (last-printable _ _ _ (p .0 .accepted) _ (p .0) (p .1), last-long _ _ _ (p .0 .accepted) _ (p .0) (p .1)))
 
 returns : tie.Need-returns
-returns c = last-so _ _ _ _ _ _ _ _ _ (c .before .before .before .before .before .before .before .totals-last .ensures) (c .before .before .before .before .last-plan .ensures) (c .before .before .run .ensures)
+returns c = last-so _ _ _ _ _ _ _ _ _ _ (c .before .before .before .before .before .before .before .before .totals-last .ensures) (c .before .before .before .before .before .before .before .last-plan .ensures) (c .before .before .before .before .before .before .job-of .ensures) (c .before .before .run .ensures)
 
 pub last-groups-spec : {M : Type 1} → statement M
-last-groups-spec = tie.close (tie.spec totals-last-requires (λ c. search needs) (λ c. search needs) (λ c κs. search needs) run-requires (λ c. search needs) returns)
+last-groups-spec =
+    tie.close
+    (tie.spec
+    totals-last-requires
+    (λ c κs. search needs)
+    (λ c κs. search needs)
+    (λ c. sym (c .before .before .before .before .before .before .before .before .before .before .before .pre .0 .sized .keptLong))
+    (λ c. sym (c .before .before .before .before .before .before .before .before .before .before .before .before .pre .0 .sized .keptLong))
+    run-requires
+    (λ c. search needs)
+    returns)
