@@ -4,6 +4,7 @@ ghost use Prim.Native.Nat.{_<_};
 ghost use Rattle.counts.specs.Below.{allBelow};
 ghost use Rattle.file.specs.Rule.{ruled};
 ghost use Rattle.file.specs.Number.{Reads};
+ghost use Rattle.lookup.specs.Find.{details};
 ghost use Rattle.counters.specs.Addends.{maskOk, fieldAddendOk, counterLevel, feeds, counterAddendOk, addendOk};
 ghost use Rattle.counters.specs.Counters.{footingOk, newAddend, addendsOk, counterOk, ruleD8};
 use file::Rule;
@@ -142,11 +143,11 @@ fn counters_ok(t: &[u16], h: Head, d: usize) -> bool
     ok
 }
 
-// D8.
-pub fn rule_d8(t: &[u16], h: Head) -> Rule
+// D8, where there are `d` details.
+pub fn rule_d8(t: &[u16], h: Head, d: usize) -> Rule
+    requires { ⌜ d ≡ details h (now t) ⌝ }
     ensures { λ r. ⌜ r ≡ ruled (ruleD8 h (now (t .entry))) ⌝ }
 {
-    let d = lookup::details_of(t, h);
     let each = counters_ok(t, h, d);
     file::rule_of(each & lookup::shared_out(t, h, tables::COUNTERS))
 }

@@ -42,6 +42,7 @@ impl Checked {
 pub fn judge(t: &[u16], h: Head, lits: &[u8]) -> Checked
     ensures { λ r. ⌜ r ≡ judged h (now (t .entry)) (now (lits .entry)) ⌝ }
 {
+    let details = lookup::details_of(t, h);
     let Rule::Passed = fields::rule_d2(h) else {
         return Checked::Broken(2);
     };
@@ -51,7 +52,7 @@ pub fn judge(t: &[u16], h: Head, lits: &[u8]) -> Checked
     let Rule::Passed = fields::rule_d4(t, h) else {
         return Checked::Broken(4);
     };
-    let Rule::Passed = groups::rule_d5(t, h) else {
+    let Rule::Passed = groups::rule_d5(t, h, details) else {
         return Checked::Broken(5);
     };
     let Rule::Passed = fits::rule_d6(t, h) else {
@@ -60,7 +61,7 @@ pub fn judge(t: &[u16], h: Head, lits: &[u8]) -> Checked
     let Rule::Passed = items::rule_d7(t, h, lits) else {
         return Checked::Broken(7);
     };
-    let Rule::Passed = counters::rule_d8(t, h) else {
+    let Rule::Passed = counters::rule_d8(t, h, details) else {
         return Checked::Broken(8);
     };
     Checked::Accepted

@@ -3,6 +3,7 @@ ghost use mathlib.Core.Path.{_≡_};
 ghost use Prim.Native.Nat.{_<_};
 ghost use Rattle.counts.specs.Below.{allBelow};
 ghost use Rattle.file.specs.Rule.{ruled};
+ghost use Rattle.lookup.specs.Find.{details};
 ghost use Rattle.groups.specs.Groups.{numbersOk, alone, groupOk, ruleD5};
 use file::Rule;
 use tables::Head;
@@ -56,10 +57,11 @@ fn groups_ok(t: &[u16], h: Head) -> bool
     ok
 }
 
-pub fn rule_d5(t: &[u16], h: Head) -> Rule
+// D5, where there are `found` details: CHECK counts them once for D5 and D8.
+pub fn rule_d5(t: &[u16], h: Head, found: usize) -> Rule
+    requires { ⌜ found ≡ details h (now t) ⌝ }
     ensures { λ r. ⌜ r ≡ ruled (ruleD5 h (now (t .entry))) ⌝ }
 {
-    let found = lookup::details_of(t, h);
     file::rule_of(
         groups_ok(t, h)
             & (1 <= found)
