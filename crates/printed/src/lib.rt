@@ -21,11 +21,14 @@ pub fn no_prefix() -> Prefix
     }
 }
 
-// Puts a prefix, and gives the offset behind it.
+// Puts a prefix, and gives the offset behind it. Of an empty one there is no copy, which would be a call of memcpy.
 fn put_front(prefix: Prefix, at: usize, out: &mut [u8]) -> usize
     requires { ⌜ Short prefix × (at + prefix .len ≤ length (now out)) ⌝ }
     ensures { λ r. ⌜ Wrote (now (out .entry)) at (inFront prefix) (now (out .exit)) r ⌝ }
 {
+    if prefix.len == 0 {
+        return at;
+    }
     let bytes = prefix.bytes;
     splice::copy(&bytes, prefix.len, at, out);
     at + prefix.len
