@@ -14,11 +14,11 @@ fn say_number(n: u64) {
     io::print_decimal(STDERR_FILENO, n);
 }
 
-pub fn usage(fd: i32) {
+fn usage(fd: i32) {
     io::write_all(fd, b"usage: sheet [--progress] DESCRIPTION RECORDS\n");
 }
 
-pub fn help(fd: i32) {
+fn help(fd: i32) {
     usage(fd);
     io::write_all(
         fd,
@@ -27,7 +27,7 @@ pub fn help(fd: i32) {
 }
 
 // A system call failed on something.
-pub fn failure(what: &[u8]) {
+fn failure(what: &[u8]) {
     say(b"sheet: ");
     os::fail(what);
 }
@@ -171,10 +171,28 @@ pub fn is_word(i: usize, word: &[u8]) -> bool {
 }
 
 // Whether argument `i` is an option.
-pub fn is_option(i: usize) -> bool {
+fn is_option(i: usize) -> bool {
     let mut text = io::buffer();
     let n = os::arg(i, &mut text);
     n > 0 && text[0] == b'-'
+}
+
+// Whether help is asked for, which is then printed.
+pub fn is_helped() -> bool {
+    let is_asked = is_word(1, b"--help") | is_word(1, b"-h");
+    if is_asked {
+        help(STDOUT_FILENO);
+    }
+    is_asked
+}
+
+// Whether two files are named from argument `first` on; else the usage is told.
+pub fn is_usable(first: usize) -> bool {
+    let is_right = (os::arg_count() == std::num::wrapping_add_usize(first, 2)) & !is_option(first);
+    if !is_right {
+        usage(STDERR_FILENO);
+    }
+    is_right
 }
 
 // ---- files

@@ -2,8 +2,6 @@
 ghost use Prim.Native.Nat.{_+_, _≤_};
 ghost use mathlib.Core.Path.{_≡_};
 ghost use lib.ListN.{length};
-use libc::STDERR_FILENO;
-use libc::STDOUT_FILENO;
 use report::Report;
 use report::Verdict;
 use stream::Run;
@@ -249,11 +247,12 @@ fn terminated(d: &[u8], report: Report, out: &mut [u8]) -> Ended
     }
 }
 
-// Ends the report and writes the rest of the sheet.
+// Writes what waits; where the sheet is whole so far, ends the report and writes the rest.
 fn finish(d: &[u8], s: Sheet, out: &mut [u8])
     requires { ⌜ s .waiting ≤ length (now out) ⌝ }
 {
-    if console::flush(out, s.waiting) {
+    let is_written = console::flush(out, s.waiting);
+    if is_written & s.whole {
         let report = s.report;
         let e = terminated(d, report, out);
         let v = e.verdict;
@@ -267,13 +266,19 @@ fn finish(d: &[u8], s: Sheet, out: &mut [u8])
     }
 }
 
-// The length of a record; 0 in a file too short for a description.
-fn record_length(d: &[u8]) -> usize {
+// The length of a record, in an accepted description; 1 where there is none.
+fn record_length(d: &[u8]) -> usize
+    ensures { λ r. ⌜ 1 ≤ r ⌝ }
+{
     if d.len() < 48 {
-        return 0;
+        return 1;
     }
     let h = tables::head_of(d);
-    tables::wide(h.reclen)
+    let n = tables::wide(h.reclen);
+    if n == 0 {
+        return 1;
+    }
+    n
 }
 
 // INITIATE of a fresh report, told where it is refused.
@@ -306,18 +311,8 @@ fn print_sheet(d: &[u8], fd: i32, path: &[u8], progress: bool, buffer: &mut [u8]
 {
     let start = initiated(d);
     let size = record_length(d);
-    if !start.whole {
-        return;
-    }
-    if size == 0 {
-        return;
-    }
     let s = print_file(d, fd, path, size, start, progress, buffer, out);
-    if s.whole {
-        finish(d, s, out);
-    } else {
-        console::flush(out, s.waiting);
-    }
+    finish(d, s, out);
 }
 
 // The description and the records, each by its path.
@@ -352,15 +347,12 @@ fn print_arguments(first: usize, progress: bool) {
 }
 
 fn main() {
-    if console::is_word(1, b"--help") || console::is_word(1, b"-h") {
-        console::help(STDOUT_FILENO);
+    if console::is_helped() {
         return;
     }
     let progress = console::is_word(1, b"--progress");
     let first = 1 + counts::one_if(progress);
-    if os::arg_count() != first + 2 || console::is_option(first) {
-        console::usage(STDERR_FILENO);
-        return;
+    if console::is_usable(first) {
+        print_arguments(first, progress);
     }
-    print_arguments(first, progress);
 }
