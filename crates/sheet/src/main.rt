@@ -16,16 +16,16 @@ const RECORD_ROOM: usize = 65_536;
 // a page footing and a page heading twice: 128 + 17 * 2 * 32 lines of 142 bytes are 172,672 bytes.
 const SHEET_ROOM: usize = 262_144;
 
-// Where the sheet stands: the state, output bytes that wait to be written, the record bytes in hand (from, to), rows
-// accepted, whether there is more to do, and whether the sheet is whole so far.
+// Where the sheet stands: output bytes that wait to be written, the record bytes in hand (from, to), rows accepted,
+// whether there is more to do, whether the sheet is whole so far, and the state.
 struct Sheet {
-    report: Report,
     waiting: usize,
     from: usize,
     to: usize,
     rows: u64,
     more: bool,
     whole: bool,
+    report: Report,
 }
 
 // ---- the rows
@@ -78,7 +78,7 @@ fn short_row(d: &[u8], rec: &[u8], report: Report) -> Verdict {
     a.verdict
 }
 
-// The next part of the file, or its end.
+// Writes what waits and reads the next part of the file, if it has not ended.
 fn next_part(
     fd: i32,
     path: &[u8],
@@ -86,22 +86,24 @@ fn next_part(
     progress: bool,
     s: Sheet,
     buffer: &mut [u8],
+    out: &[u8],
 ) -> Sheet
-    requires { ⌜ part ≤ length (now buffer) ⌝ }
-    ensures { λ r. ⌜ (r .waiting ≡ s .waiting) × (r .from ≡ 0) × (r .to ≤ length (now (buffer .entry))) ⌝ }
+    requires { ⌜ (part ≤ length (now buffer)) × (s .waiting ≤ length (now out)) ⌝ }
+    ensures { λ r. ⌜ (r .waiting ≡ 0) × (r .from ≡ 0) × (r .to ≤ length (now (buffer .entry))) ⌝ }
 {
     console::progress(progress, s.rows);
+    let is_written = console::flush(out, s.waiting);
     let to = console::read_part(fd, part, buffer);
     let is_broken = console::is_unreadable(to, fd, path);
     let report = s.report;
     Sheet {
-        report,
-        waiting: s.waiting,
+        waiting: 0,
         from: 0,
         to,
         rows: s.rows,
-        more: to > 0,
-        whole: !is_broken,
+        more: is_written & (to > 0),
+        whole: is_written & !is_broken,
+        report,
     }
 }
 
@@ -126,7 +128,7 @@ fn after_part(
         let v = short_row(d, &buffer[from..to], report);
         return end_at(d, to - from, v, s, out);
     }
-    next_part(fd, path, part, progress, s, buffer)
+    next_part(fd, path, part, progress, s, buffer, out)
 }
 
 // What a verdict on the records in hand asks for.
