@@ -51,7 +51,7 @@ fn words(desc: &[u8], length: usize, answer: &Answer) -> String {
     let tables = description::check(desc);
     match (answer.number, tables) {
         (1, _) => format!("description breaks rule {extra} ({})", RULES[extra - 1]),
-        (5, Ok(tables)) => format!("the record has {length} bytes, not {}", tables.r),
+        (5, Ok(tables)) => format!("the record's length is {length}, not {}", tables.r),
         (6, Ok(tables)) => {
             let field = tables.fields[extra];
             let last = field.offset + field.width - 1;
@@ -302,8 +302,8 @@ fn names_the_row_that_is_refused() {
         (b"AA+005AA+007BB*002BB+009", 3, amount),
         (b"\x07A+005", 1, "field 0 (bytes 0 to 1) is malformed; refusal 6, extra number 0"),
         (b"AA+005AA 007", 2, amount),
-        (b"AA+005AA+007BB-002BB", 4, "the record has 2 bytes, not 6; refusal 5, extra number 0"),
-        (b"AA+005\n", 2, "the record has 1 bytes, not 6; refusal 5, extra number 0"),
+        (b"AA+005AA+007BB-002BB", 4, "the record's length is 2, not 6; refusal 5, extra number 0"),
+        (b"AA+005\n", 2, "the record's length is 1, not 6; refusal 5, extra number 0"),
     ];
     for (rows, row, words) in cases {
         let written = agrees(&desc, &folder.file("rows", rows));

@@ -115,9 +115,9 @@ fn described_length(d: &[u8]) -> u64 {
 }
 
 fn wrong_length(d: &[u8], length: usize) {
-    say(b"the record has ");
+    say(b"the record's length is ");
     say_number(length as u64);
-    say(b" bytes, not ");
+    say(b", not ");
     say_number(described_length(d));
 }
 
