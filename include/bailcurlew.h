@@ -1,8 +1,21 @@
 /* The calls of Bailcurlew for C: CHECK, INITIATE, GENERATE and TERMINATE. docs/ABI.md tells more.
  *
  * Link with target/staticlib/libreport_c.a. No call allocates, keeps a pointer or needs anything checked
- * beforehand: any bytes are taken as description, state and record. No pointer may be NULL, also where its
- * length is 0, and what a call writes (state, output, answer) may not overlap anything else it is lent.
+ * beforehand: any bytes are taken as description, state and record. What the caller must guarantee:
+ *
+ * - No pointer is NULL, also where its length is 0; a pointer with length 0 is never read or written through
+ *   and may point anywhere else.
+ * - `description`, `record` and `output` point to as many bytes as the length beside them says (`length`,
+ *   `record_length`, `room`), at most PTRDIFF_MAX; `state` to BAILCURLEW_STATE bytes; `answer` to three
+ *   uint64_t, aligned as such. They stay valid, and nobody else writes them, until the call returns.
+ * - What a call writes (`state`, `output`, `answer`) overlaps nothing else that it is lent. `description` and
+ *   `record` are only read and may overlap each other.
+ *
+ * Length 0 is an answer like any other: an empty description breaks rule 1 (refusal 1, extra number 1); an empty
+ * record has not the described length (refusal 5, unless 1 to 4 come first); without room a call that prints
+ * nothing is accepted, and one that prints is refused with 9. `output` and `answer` need not be set beforehand.
+ *
+ * Stack: a call needs less than 32 KiB (measured, docs/AUDIT.md).
  */
 #ifndef BAILCURLEW_H
 #define BAILCURLEW_H

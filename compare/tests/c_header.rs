@@ -18,12 +18,17 @@ fn shown(output: &Output) -> String {
     String::from_utf8_lossy(&output.stderr).into_owned()
 }
 
+/// Where the static library is; BAILCURLEW_STATICLIB names another folder, as for the Rust package.
+fn library() -> PathBuf {
+    std::env::var_os("BAILCURLEW_STATICLIB").map_or(at("../target/staticlib"), PathBuf::from)
+}
+
 /// Compiles `c/sheet.c`; gives the program.
 fn compiled() -> PathBuf {
     let program = Path::new(env!("CARGO_TARGET_TMPDIR")).join("c_sheet");
     let mut compiler = Command::new("cc");
     compiler.args(STRICT).arg("-O2").arg("-I").arg(at("../include")).arg(at("c/sheet.c"));
-    compiler.arg("-L").arg(env!("BAILCURLEW_STATICLIB")).arg("-lreport_c").arg("-o").arg(&program);
+    compiler.arg("-L").arg(library()).arg("-lreport_c").arg("-o").arg(&program);
     let output = run(&mut compiler);
     assert!(output.status.success(), "{}", shown(&output));
     program

@@ -52,8 +52,8 @@ fn calls_leave_alike_and_everything_listed_is_reached() {
 /// CHECK and INITIATE of a fresh state; gives the first broken rule or 0.
 fn checked_and_initiated(drawn: &Sample) -> u8 {
     let wanted = description::check(&drawn.bytes).map_or_else(|rule| rule, |_| 0);
-    assert_eq!(compare::check(&drawn.bytes), u32::from(wanted), "{}: {:?}", drawn.name, drawn.bytes);
-    let state = *compare::State::fresh().as_bytes();
+    assert_eq!(bailcurlew::check(&drawn.bytes), u32::from(wanted), "{}: {:?}", drawn.name, drawn.bytes);
+    let state = *bailcurlew::State::fresh().as_bytes();
     let asked = Asked { desc: &drawn.bytes, state, call: Call::Initiate, output: Vec::new() };
     let left = both(&asked).unwrap_or_else(|what| panic!("{}: {what}", drawn.name));
     assert_eq!((left.number, left.extra), (u64::from(wanted > 0), u64::from(wanted)));
@@ -84,5 +84,5 @@ fn answer_of(left: &Left) -> Answer {
 
 #[test]
 fn a_fresh_state_is_the_second_programs() {
-    assert_eq!(compare::State::fresh().as_bytes(), &State::fresh().to_bytes());
+    assert_eq!(bailcurlew::State::fresh().as_bytes(), &State::fresh().to_bytes());
 }

@@ -19,7 +19,7 @@ fn both_answer_alike_and_every_rule_is_reached() {
     let mut reached = [0usize; 9];
     for i in 0..DESCRIPTIONS {
         let drawn = sample(&mut rng);
-        let answer = compare::check(&drawn.bytes);
+        let answer = bailcurlew::check(&drawn.bytes);
         assert_eq!(answer, wanted(&drawn.bytes), "description {i}, {}: {:?}", drawn.name, drawn.bytes);
         reached[answer as usize] += 1;
     }
@@ -34,13 +34,13 @@ fn cuts_and_trailers() {
     for _ in 0..20 {
         let bytes = second::cases::accepted_description(&mut rng);
         for end in 0..bytes.len() {
-            assert_eq!(compare::check(&bytes[..end]), wanted(&bytes[..end]));
+            assert_eq!(bailcurlew::check(&bytes[..end]), wanted(&bytes[..end]));
         }
         for at in bytes.len() - 48..bytes.len() {
             for change in [1u8, 2, 127, 128, 255] {
                 let mut damaged = bytes.clone();
                 damaged[at] = damaged[at].wrapping_add(change);
-                assert_eq!(compare::check(&damaged), wanted(&damaged), "byte {at} by {change}");
+                assert_eq!(bailcurlew::check(&damaged), wanted(&damaged), "byte {at} by {change}");
             }
         }
     }
@@ -52,7 +52,7 @@ fn odd_sizes() {
     for size in (0..100).chain([65_534, 65_535, 65_536, 65_583, 65_584, 131_072]) {
         for byte in [0u8, 1, 48, 255] {
             let bytes = vec![byte; size];
-            assert_eq!(compare::check(&bytes), wanted(&bytes), "{size} bytes of {byte}");
+            assert_eq!(bailcurlew::check(&bytes), wanted(&bytes), "{size} bytes of {byte}");
         }
     }
 }

@@ -2,8 +2,8 @@
 
 mod common;
 
+use bailcurlew::STATE_BYTES;
 use common::{both, Asked, Call, StateBytes};
-use compare::STATE_BYTES;
 use second::cases::{case, Case, Rng, Step};
 
 /// Cases whose steps are made odd.
@@ -103,8 +103,8 @@ fn every_byte_of_a_state_changed() {
     }
 }
 
-fn states_of_the_whole_run(desc: &[u8]) -> [compare::State; 3] {
-    let fresh = compare::State::fresh();
+fn states_of_the_whole_run(desc: &[u8]) -> [bailcurlew::State; 3] {
+    let fresh = bailcurlew::State::fresh();
     let mut started = fresh.clone();
     assert!(started.initiate(desc).accepted());
     let mut running = started.clone();

@@ -6,7 +6,7 @@ use std::fs::{self, File};
 use std::path::{Path, PathBuf};
 use std::process::{Command, Output, Stdio};
 
-use second::cases::{accepted_description, sequence, Call, Rng};
+use second::cases::{accepted_description, sample, sequence, Call, Rng};
 use second::report::{generate, initiate, terminate, Answer};
 use second::state::State;
 use second::{description, record};
@@ -20,18 +20,19 @@ const USAGE: &str = "usage: sheet [--progress] DESCRIPTION RECORDS";
 const NOT_OPENED: &str = "sheet: {file}: No such file or directory";
 const NOT_READ: &str = "sheet: {file}: Is a directory";
 const NOT_WRITTEN: &str = "sheet: standard output: No space left on device";
-const INITIATE: &str = "sheet: INITIATE: refusal {number}, extra number {extra}";
-const GENERATE: &str = "sheet: GENERATE, row {row}: refusal {number}, extra number {extra}";
-const TERMINATE: &str = "sheet: TERMINATE: refusal {number}, extra number {extra}";
+const INITIATE: &str = "sheet: {words}; refusal {number}, extra number {extra}";
+const GENERATE: &str = "sheet: row {row}: {words}; refusal {number}, extra number {extra}";
+const TERMINATE: &str = "sheet: TERMINATE: {words}; refusal {number}, extra number {extra}";
+
+/// What each of D1 to D8 is about.
+const RULES: [&str; 8] = ["sections", "page", "fields", "controls", "groups", "lines", "items", "counters"];
 
 /// `--help` says this on standard output and nothing on standard error.
 const HELP: &str = "\
 usage: sheet [--progress] DESCRIPTION RECORDS
 
-Prints the sheet of a record file: INITIATE, GENERATE
-every record as detail 0, TERMINATE. A refused call is
-told on standard error and ends the sheet; what was
-accepted before stands.
+Prints the sheet of a record file: INITIATE, GENERATE every record as detail 0, TERMINATE. A refused call is told on
+standard error and ends the sheet; what was accepted before stands. Rows count from 1, fields and bytes from 0.
 
   --progress  tell on standard error how many rows are done
   --help      print this
@@ -44,8 +45,27 @@ fn filled(message: &str, words: &[(&str, &dyn Display)]) -> String {
     words.iter().fold(message.to_string(), put) + "\n"
 }
 
-fn refused(message: &str, row: usize, answer: &Answer) -> String {
-    filled(message, &[("row", &row), ("number", &answer.number), ("extra", &answer.extra)])
+/// A refusal in words. Those that a sheet cannot meet are left out: 2, 3, 4, and 9 with this program's output.
+fn words(desc: &[u8], length: usize, answer: &Answer) -> String {
+    let extra = answer.extra as usize;
+    let tables = description::check(desc);
+    match (answer.number, tables) {
+        (1, _) => format!("description breaks rule {extra} ({})", RULES[extra - 1]),
+        (5, Ok(tables)) => format!("the record's length is {length}, not {}", tables.r),
+        (6, Ok(tables)) => {
+            let field = tables.fields[extra];
+            let last = field.offset + field.width - 1;
+            format!("field {extra} (bytes {} to {last}) is malformed", field.offset)
+        }
+        (7, _) => "an addition would leave the sum range".into(),
+        (8, _) => "a page change would pass page 999999".into(),
+        _ => panic!("{answer:?}"),
+    }
+}
+
+fn refused(message: &str, desc: &[u8], row: usize, length: usize, answer: &Answer) -> String {
+    let words = words(desc, length, answer);
+    filled(message, &[("words", &words), ("row", &row), ("number", &answer.number), ("extra", &answer.extra)])
 }
 
 fn about_file(message: &str, file: &Path) -> String {
@@ -120,7 +140,7 @@ const ROOM: usize = 1 << 18;
 fn wanted(desc: &[u8], rows: &[u8]) -> Written {
     let begun = initiate(desc, &State::fresh());
     if begun.number != 0 {
-        return Written::errors(refused(INITIATE, 0, &begun));
+        return Written::errors(refused(INITIATE, desc, 0, 0, &begun));
     }
     let length = usize::from(description::check(desc).expect("accepted by INITIATE").r);
     let mut written = Written::errors(String::new());
@@ -129,7 +149,7 @@ fn wanted(desc: &[u8], rows: &[u8]) -> Written {
     for (row, record) in rows.chunks(length).enumerate() {
         let answer = generate(desc, &state, 0, record, &mut output);
         if answer.number != 0 {
-            written.errors = refused(GENERATE, row + 1, &answer);
+            written.errors = refused(GENERATE, desc, row + 1, record.len(), &answer);
             return written;
         }
         written.sheet.extend(&output[..answer.count]);
@@ -137,7 +157,7 @@ fn wanted(desc: &[u8], rows: &[u8]) -> Written {
     }
     let ended = terminate(desc, &state, &mut output);
     if ended.number != 0 {
-        written.errors = refused(TERMINATE, 0, &ended);
+        written.errors = refused(TERMINATE, desc, 0, 0, &ended);
         return written;
     }
     written.sheet.extend(&output[..ended.count]);
@@ -169,7 +189,17 @@ fn prints_the_examples() {
 #[test]
 fn says_its_usage() {
     let [desc, rows] = ["whole_run.desc", "whole_run.rows"].map(example);
-    for args in [&[][..], &[&desc][..], &[&desc, &rows, &rows][..]] {
+    let [progress, unknown] = ["--progress", "--fast"].map(PathBuf::from);
+    let wrong = [
+        &[][..],
+        &[&desc],
+        &[&desc, &rows, &rows],
+        &[&progress, &desc],
+        &[&unknown, &rows],
+        &[&unknown, &desc, &rows],
+        &[&progress, &unknown, &rows],
+    ];
+    for args in wrong {
         let args: Vec<&Path> = args.iter().map(|path| path.as_path()).collect();
         assert_eq!(sheet(&args), Written::errors(filled(USAGE, &[])), "{args:?}");
     }
@@ -231,12 +261,34 @@ fn names_the_rule_that_a_description_breaks() {
     let good = fs::read(example("whole_run.desc")).expect("the example");
     let mut no_page = good.clone();
     no_page[good.len() - 16] = 0;
-    let cases = [("empty", Vec::new(), 1), ("long", vec![0; 70_000], 1), ("no_page", no_page, 2)];
-    for (name, bytes, rule) in cases {
+    let cases = [
+        ("empty", Vec::new(), "1 (sections)", 1),
+        ("long", vec![0; 70_000], "1 (sections)", 1),
+        ("no_page", no_page, "2 (page)", 2),
+    ];
+    for (name, bytes, rule, extra) in cases {
         let desc = folder.file(name, &bytes);
-        let line = filled(INITIATE, &[("number", &1), ("extra", &rule)]);
+        let line = format!("sheet: description breaks rule {rule}; refusal 1, extra number {extra}\n");
         assert_eq!(sheet(&[&desc, &rows]), Written::errors(line), "{name}");
         agrees(&desc, &rows);
+    }
+}
+
+/// Every rule has its word: descriptions that break one, drawn until each was seen.
+#[test]
+fn has_a_word_for_every_rule() {
+    let folder = Folder::new("rules");
+    let rows = example("whole_run.rows");
+    let mut rng = Rng::new(7);
+    let mut seen = [false; 8];
+    while seen.contains(&false) {
+        let drawn = sample(&mut rng);
+        if let Err(rule) = description::check(&drawn.bytes) {
+            if !seen[usize::from(rule) - 1] {
+                seen[usize::from(rule) - 1] = true;
+                agrees(&folder.file("desc", &drawn.bytes), &rows);
+            }
+        }
     }
 }
 
@@ -245,18 +297,46 @@ fn names_the_rule_that_a_description_breaks() {
 fn names_the_row_that_is_refused() {
     let folder = Folder::new("rows");
     let desc = example("whole_run.desc");
-    let cases: [(&[u8], usize, u8, u8); 5] = [
-        (b"AA+005AA+007BB*002BB+009", 3, 6, 1),
-        (b"\x07A+005", 1, 6, 0),
-        (b"AA+005AA 007", 2, 6, 1),
-        (b"AA+005AA+007BB-002BB", 4, 5, 0),
-        (b"AA+005\n", 2, 5, 0),
+    let amount = "field 1 (bytes 2 to 5) is malformed; refusal 6, extra number 1";
+    let cases: [(&[u8], usize, &str); 5] = [
+        (b"AA+005AA+007BB*002BB+009", 3, amount),
+        (b"\x07A+005", 1, "field 0 (bytes 0 to 1) is malformed; refusal 6, extra number 0"),
+        (b"AA+005AA 007", 2, amount),
+        (b"AA+005AA+007BB-002BB", 4, "the record's length is 2, not 6; refusal 5, extra number 0"),
+        (b"AA+005\n", 2, "the record's length is 1, not 6; refusal 5, extra number 0"),
     ];
-    for (rows, row, number, extra) in cases {
+    for (rows, row, words) in cases {
         let written = agrees(&desc, &folder.file("rows", rows));
-        let line = filled(GENERATE, &[("row", &row), ("number", &number), ("extra", &extra)]);
-        assert_eq!(written.errors, line);
+        assert_eq!(written.errors, format!("sheet: row {row}: {words}\n"));
         assert_eq!(written.sheet.is_empty(), row == 1);
+    }
+}
+
+// ---- the exit status, by `bin/sheet`
+
+#[test]
+fn bin_sheet_has_an_exit_status() {
+    let folder = Folder::new("status");
+    let [desc, rows] = ["whole_run.desc", "whole_run.rows"].map(example);
+    let bad_row = folder.file("bad_row", b"AA+005AA*007");
+    let none = folder.0.join("none");
+    let words = |args: &[&Path]| args.iter().map(|path| path.to_path_buf()).collect::<Vec<_>>();
+    let cases = [
+        (words(&[&desc, &rows]), 0, 176, ""),
+        (words(&[Path::new("--progress"), &desc, &rows]), 0, 176, "sheet: 4 rows\n"),
+        (words(&[Path::new("--help")]), 0, HELP.len(), ""),
+        (words(&[&desc, &bad_row]), 1, 44, "sheet: row 2: field 1 (bytes 2 to 5) is malformed"),
+        (words(&[&rows, &rows]), 1, 0, "sheet: description breaks rule 1 (sections)"),
+        (words(&[&desc, &none]), 1, 0, "sheet: "),
+        (words(&[&desc]), 2, 0, USAGE),
+    ];
+    for (args, status, length, errors) in cases {
+        let mut command = Command::new(Path::new(env!("CARGO_MANIFEST_DIR")).join("../bin/sheet"));
+        let output = command.args(&args).output().expect("bin/sheet");
+        assert_eq!(output.status.code(), Some(status), "{args:?}");
+        assert_eq!(output.stdout.len(), length, "{args:?}");
+        let told = String::from_utf8_lossy(&output.stderr);
+        assert!(told.starts_with(errors) && told.is_empty() == errors.is_empty(), "{args:?}: {told}");
     }
 }
 

@@ -2,6 +2,9 @@
 //!
 //! description bytes -> `description` -> tables; state -> `state` -> rules; a call -> `report`:
 //! which groups are due (`turns`), where they land (`place`), what they print (`print`).
+//!
+//! Each module uses only those before it in this order (`tests/modules.rs`): tables, starts, description, record, state, sums,
+//! turns, place, print, report, builder, source, cases.
 
 pub mod builder;
 pub mod cases;
@@ -11,6 +14,8 @@ pub mod print;
 pub mod record;
 pub mod report;
 pub mod source;
+pub mod starts;
 pub mod state;
 pub mod sums;
+pub mod tables;
 pub mod turns;

@@ -4,6 +4,10 @@ use crate::description::{
     Description, Group, CF, LINE_ABSOLUTE, LINE_NEXT_PAGE, LINE_RELATIVE, NEXT_ABSOLUTE, NEXT_PAGE,
     NEXT_RELATIVE, PF, PH, RF, RH,
 };
+use crate::starts::{
+    first_integer, first_kind, first_page_heading_line, later_page_heading_line, report_footing_line,
+    report_heading_line,
+};
 use crate::state::LAST_PAGE;
 use crate::turns::Turn;
 
@@ -42,59 +46,6 @@ pub fn land<'a>(
         sheet.take(turn)?;
     }
     Ok((sheet.landed, sheet.place))
-}
-
-// Lines fixed by the description alone. The group has lines.
-
-/// The integer of the group's first line.
-fn first_integer(d: &Description, group: &Group) -> u32 {
-    u32::from(d.lines_of(group)[0].integer)
-}
-
-fn first_kind(d: &Description, group: &Group) -> u16 {
-    d.lines_of(group)[0].kind
-}
-
-/// The first line, where a relative one counts from `base`.
-fn line_from(d: &Description, group: &Group, base: u32) -> u32 {
-    let n = first_integer(d, group);
-    if first_kind(d, group) == LINE_RELATIVE {
-        base + n
-    } else {
-        n
-    }
-}
-
-/// "Relative RH starting at H−1+n."
-pub fn report_heading_line(d: &Description, rh: &Group) -> u32 {
-    line_from(d, rh, u32::from(d.h) - 1)
-}
-
-/// RH's last line, or H−1 without RH.
-pub fn report_heading_end(d: &Description) -> u32 {
-    let rh = d.lined(RH).map(|rh| &d.groups[rh]);
-    rh.map_or(u32::from(d.h) - 1, |rh| report_heading_line(d, rh) + d.span(rh))
-}
-
-/// "PH starts below RH's last line (relative: that line + n; without RH, H−1+n)."
-pub fn first_page_heading_line(d: &Description, ph: &Group) -> u32 {
-    line_from(d, ph, report_heading_end(d))
-}
-
-/// "On later pages a relative PH starts at H−1+n."
-pub fn later_page_heading_line(d: &Description, ph: &Group) -> u32 {
-    line_from(d, ph, u32::from(d.h) - 1)
-}
-
-/// PF's last line, or FT without PF.
-pub fn page_footing_end(d: &Description) -> u32 {
-    let pf = d.lined(PF).map(|pf| &d.groups[pf]);
-    pf.map_or(u32::from(d.ft), |pf| first_integer(d, pf) + d.span(pf))
-}
-
-/// "RF not on a page of its own starts below PF's last line (relative: that line + n; without PF, FT+n)."
-pub fn report_footing_line(d: &Description, rf: &Group) -> u32 {
-    line_from(d, rf, page_footing_end(d))
 }
 
 struct Sheet<'a, 'd> {

@@ -10,6 +10,6 @@ fn main() {
         std::process::exit(1);
     });
     let times: u32 = times.parse().unwrap_or(1);
-    let answers: u32 = (0..times).map(|_| compare::check(&bytes)).sum();
+    let answers: u32 = (0..times).map(|_| bailcurlew::check(&bytes)).sum();
     println!("{answers}");
 }

@@ -20,7 +20,7 @@ fn main() {
     let times: usize = times.parse().unwrap_or(1);
     let tables = second::description::check(&description);
     let tables = tables.unwrap_or_else(|rule| fail(&format!("the description breaks D{rule}"), 1));
-    let mut state = compare::State::fresh();
+    let mut state = bailcurlew::State::fresh();
     state.initiate(&description);
     let mut output = vec![0; 1 << 18];
     let mut written = 0;

@@ -1,6 +1,6 @@
 //! The same call made of both programs, and all that it leaves compared byte for byte.
 
-use compare::STATE_BYTES;
+use bailcurlew::STATE_BYTES;
 use second::{cases, report};
 
 pub type StateBytes = [u8; STATE_BYTES];
@@ -66,8 +66,8 @@ const GUARDS: usize = 64;
 
 /// The proved call. Bytes around the output and around the state must stay as they were too.
 pub fn library(asked: &Asked) -> Left {
-    let guard = compare::State::from_bytes([GUARD; STATE_BYTES]);
-    let mut states = [guard.clone(), compare::State::from_bytes(asked.state), guard.clone()];
+    let guard = bailcurlew::State::from_bytes([GUARD; STATE_BYTES]);
+    let mut states = [guard.clone(), bailcurlew::State::from_bytes(asked.state), guard.clone()];
     let mut buffer = [&[GUARD; GUARDS], asked.output.as_slice(), &[GUARD; GUARDS]].concat();
     let lent = GUARDS..GUARDS + asked.output.len();
     let (state, output) = (&mut states[1], &mut buffer[lent.clone()]);

@@ -1,13 +1,11 @@
 // The thin program: INITIATE, GENERATE every record of a file as detail 0, TERMINATE; the sheet goes to standard output.
-ghost use Prim.Native.Nat.{_≤_};
+ghost use Prim.Native.Nat.{_+_, _≤_};
 ghost use mathlib.Core.Path.{_≡_};
 ghost use lib.ListN.{length};
-ghost use Rattle.io.specs.Counts.{Counts};
-use libc::STDERR_FILENO;
-use libc::STDOUT_FILENO;
 use refusals::Verdict;
 use report::Report;
 use state::State;
+use stream::Run;
 
 // A description that keeps D1 has at most 12,928 bytes, so a longer file breaks it whatever the rest.
 const DESCRIPTION_ROOM: usize = 16_384;
@@ -19,266 +17,194 @@ const RECORD_ROOM: usize = 65_536;
 // a page footing and a page heading twice: 128 + 17 * 2 * 32 lines of 142 bytes are 172,672 bytes.
 const SHEET_ROOM: usize = 262_144;
 
-// Where the sheet stands: the state, bytes that wait in the output buffer, rows accepted, whether more records may
-// follow, and whether the sheet is whole so far.
+// Where the sheet stands: output bytes that wait to be written, the record bytes in hand (from, to), rows accepted,
+// whether there is more to do, whether the sheet is whole so far, and the state.
 struct Sheet {
-    state: State,
     waiting: usize,
+    from: usize,
+    to: usize,
     rows: u64,
     more: bool,
     whole: bool,
+    state: State,
 }
 
-fn say(text: &[u8]) {
-    io::write_all(STDERR_FILENO, text);
-}
-
-fn usage(fd: i32) {
-    io::write_all(fd, b"usage: sheet [--progress] DESCRIPTION RECORDS\n");
-}
-
-fn help(fd: i32) {
-    usage(fd);
-    io::write_all(
-        fd,
-        b"\nPrints the sheet of a record file: INITIATE, GENERATE\n",
-    );
-    io::write_all(
-        fd,
-        b"every record as detail 0, TERMINATE. A refused call is\n",
-    );
-    io::write_all(fd, b"told on standard error and ends the sheet; what was\n");
-    io::write_all(fd, b"accepted before stands.\n\n");
-    io::write_all(
-        fd,
-        b"  --progress  tell on standard error how many rows are done\n",
-    );
-    io::write_all(fd, b"  --help      print this\n");
-}
-
-// ---- what is told of a refusal
-fn tell_refusal(v: Verdict) {
-    say(b": refusal ");
-    io::print_decimal(STDERR_FILENO, v.number());
-    say(b", extra number ");
-    io::print_decimal(STDERR_FILENO, v.extra());
-    say(b"\n");
-}
-
-fn tell_row(rows: u64, v: Verdict) {
-    say(b"sheet: GENERATE, row ");
-    io::print_decimal(STDERR_FILENO, rows);
-    tell_refusal(v);
-}
-
-fn tell_rows(rows: u64) {
-    say(b"sheet: ");
-    io::print_decimal(STDERR_FILENO, rows);
-    say(b" rows\n");
-}
-
-// A system call failed on something.
-fn tell_failure(what: &[u8]) {
-    say(b"sheet: ");
-    os::fail(what);
-}
-
-// ---- the output buffer
-fn sheet_buffer() -> [u8; SHEET_ROOM]
-    ensures { λ r. ⌜ 262144 ≡ length r ⌝ }
+// ---- the rows
+// A refused row of so many bytes ends the sheet; what was accepted before it stands.
+fn end_at(d: &[u8], bytes: usize, v: Verdict, s: Sheet, out: &[u8]) -> Sheet
+    requires { ⌜ s .waiting ≤ length (now out) ⌝ }
+    ensures { λ r. ⌜ (r .waiting ≡ 0) × (r .from ≡ s .from) × (r .to ≡ s .to) ⌝ }
 {
-    [0; SHEET_ROOM]
-}
-
-// Writes what waits; answers whether it could.
-fn flush(out: &[u8], waiting: usize) -> bool
-    requires { ⌜ waiting ≤ length (now out) ⌝ }
-{
-    let is_written = io::write_all(STDOUT_FILENO, &out[..waiting]);
-    if !is_written {
-        tell_failure(b"standard output");
+    if console::flush(out, s.waiting) {
+        console::at_row(std::num::wrapping_add_u64(s.rows, 1));
+        console::refusal(d, bytes, v.number(), v.extra());
     }
-    is_written
-}
-
-// ---- the calls
-// The sheet stops here.
-fn stopped(state: State, rows: u64) -> Sheet
-    ensures { λ r. ⌜ r .waiting ≡ 0 ⌝ }
-{
+    let state = s.state;
     Sheet {
         state,
         waiting: 0,
-        rows,
+        from: s.from,
+        to: s.to,
+        rows: s.rows,
         more: false,
         whole: false,
     }
 }
 
-// A refused row ends the sheet; what was accepted before it stands.
-fn end_at(state: State, rows: u64, v: Verdict, out: &[u8], waiting: usize) -> Sheet
-    requires { ⌜ waiting ≤ length (now out) ⌝ }
-    ensures { λ r. ⌜ r .waiting ≡ 0 ⌝ }
+// A row without room: what waits is written and the row tried again, since its refusal touched nothing.
+fn make_room(d: &[u8], size: usize, v: Verdict, s: Sheet, out: &[u8]) -> Sheet
+    requires { ⌜ s .waiting ≤ length (now out) ⌝ }
+    ensures { λ r. ⌜ (r .waiting ≡ 0) × (r .from ≡ s .from) × (r .to ≡ s .to) ⌝ }
 {
-    if flush(out, waiting) {
-        tell_row(std::num::wrapping_add_u64(rows, 1), v);
+    if s.waiting == 0 {
+        return end_at(d, size, v, s, out);
     }
-    stopped(state, rows)
+    let is_written = console::flush(out, s.waiting);
+    let state = s.state;
+    Sheet {
+        state,
+        waiting: 0,
+        from: s.from,
+        to: s.to,
+        rows: s.rows,
+        more: is_written,
+        whole: is_written,
+    }
 }
 
-// The verdict on the record that the file ends in, where it is too short.
-fn short_row(d: &[u8], rec: &[u8], state: State, out: &mut [u8]) -> Verdict {
+// The verdict on the record that the file ends in, where it is too short: refused before any room is asked for.
+fn short_row(d: &[u8], rec: &[u8], state: State) -> Verdict {
+    let mut none = [0u8; 1];
     let report = Report { state };
-    let a = report.generate(d, 0, rec, out);
+    let a = report.generate(d, 0, rec, &mut none);
     a.verdict
 }
 
-// A part of the file: the state, output bytes that wait, rows accepted, record bytes done, what stopped it, and whether
-// the output could be written.
-struct Part {
-    state: State,
-    waiting: usize,
-    rows: u64,
-    done: usize,
-    verdict: Verdict,
-    written: bool,
-}
-
-// Whether room can be made: by writing what waits and trying the row again, since a refusal touched nothing.
-fn wants_room(v: Verdict, waiting: usize) -> bool {
-    match v {
-        Verdict::Room => waiting > 0,
-        _ => false,
-    }
-}
-
-// The records of a part of the file, until one is refused.
-fn run_part(d: &[u8], rows: &[u8], size: usize, s: Sheet, out: &mut [u8]) -> Part
-    requires { ⌜ (1 ≤ size) × (s .waiting ≤ length (now out)) ⌝ }
-    ensures { λ r. ⌜ (r .waiting ≤ length (now (out .entry))) × (r .done ≤ length (now (rows .entry))) ⌝ }
-{
-    let n = rows.len();
-    let room = out.len();
-    let mut state = s.state;
-    let mut at = s.waiting;
-    let mut done = s.rows;
-    let mut k = 0;
-    let mut verdict = Verdict::Room;
-    let mut written = true;
-    let mut turns = u64::MAX;
-    while turns > 0 {
-        turns -= 1;
-        let run = stream::generate_all(d, &rows[k..], size, state, &mut out[at..]);
-        let next = run.state;
-        verdict = run.verdict;
-        state = next;
-        k += run.done;
-        at += run.count;
-        done = std::num::wrapping_add_u64(done, (run.done / size) as u64);
-        if !wants_room(verdict, at) {
-            break;
-        }
-        written = flush(out, at);
-        if !written {
-            break;
-        }
-        at = 0;
-    }
-    Part {
-        state,
-        waiting: at,
-        rows: done,
-        done: k,
-        verdict,
-        written,
-    }
-}
-
-// Prints a part of the file; a record that is refused or cut short ends the sheet.
-fn print_part(d: &[u8], rows: &[u8], size: usize, s: Sheet, out: &mut [u8]) -> Sheet
-    requires { ⌜ (1 ≤ size) × (s .waiting ≤ length (now out)) ⌝ }
-    ensures { λ r. ⌜ r .waiting ≤ length (now (out .entry)) ⌝ }
-{
-    let p = run_part(d, rows, size, s, out);
-    let state = p.state;
-    let k = p.done;
-    let at = p.waiting;
-    let v = p.verdict;
-    if !p.written {
-        return stopped(state, p.rows);
-    }
-    match v {
-        Verdict::Accepted => {
-            if k < rows.len() {
-                let short = short_row(d, &rows[k..], state, &mut out[at..]);
-                return end_at(state, p.rows, short, out, at);
-            }
-            Sheet {
-                state,
-                waiting: at,
-                rows: p.rows,
-                more: true,
-                whole: true,
-            }
-        }
-        _ => end_at(state, p.rows, v, out, at),
-    }
-}
-
-// ---- the files
-// Whether a read failed: a file that is read to its end answers 0 once more.
-fn is_unreadable(fd: i32) -> bool {
-    let mut one = [0u8; 1];
-    libc::read(fd, &mut one) < 0
-}
-
-// Reads a part of an open file.
-fn read_part(fd: i32, part: usize, buffer: &mut [u8]) -> usize
-    requires { ⌜ part ≤ length (now buffer) ⌝ }
-    ensures { λ r. ⌜ Counts r (now (buffer .exit)) ⌝ }
-{
-    let got = io::read_full(fd, &mut buffer[..part]);
-    counts::least(got, part)
-}
-
-// What follows a part: another one, or the end of the file.
-fn after_part(fd: i32, path: &[u8], is_full: bool, s: Sheet) -> Sheet
-    ensures { λ r. ⌜ r .waiting ≤ s .waiting ⌝ }
-{
-    if is_full {
-        return s;
-    }
-    let state = s.state;
-    let is_broken = is_unreadable(fd);
-    if is_broken {
-        tell_failure(path);
-    }
-    Sheet {
-        state,
-        waiting: s.waiting,
-        rows: s.rows,
-        more: false,
-        whole: s.whole & !is_broken,
-    }
-}
-
-// Reads a part of an open file and prints its records.
+// Writes what waits and reads the next part of the file, if it has not ended.
 fn next_part(
+    fd: i32,
+    path: &[u8],
+    part: usize,
+    progress: bool,
+    s: Sheet,
+    buffer: &mut [u8],
+    out: &[u8],
+) -> Sheet
+    requires { ⌜ (part ≤ length (now buffer)) × (s .waiting ≤ length (now out)) ⌝ }
+    ensures { λ r. ⌜ (r .waiting ≡ 0) × (r .from ≡ 0) × (r .to ≤ length (now (buffer .entry))) ⌝ }
+{
+    console::progress(progress, s.rows);
+    let is_written = console::flush(out, s.waiting);
+    let to = console::read_part(fd, part, buffer);
+    let is_broken = console::is_unreadable(to, fd, path);
+    let state = s.state;
+    Sheet {
+        waiting: 0,
+        from: 0,
+        to,
+        rows: s.rows,
+        more: is_written & (to > 0),
+        whole: is_written & !is_broken,
+        state,
+    }
+}
+
+// The whole records in hand are printed: what follows them.
+fn after_part(
+    d: &[u8],
+    fd: i32,
+    path: &[u8],
+    part: usize,
+    progress: bool,
+    s: Sheet,
+    buffer: &mut [u8],
+    out: &[u8],
+) -> Sheet
+    requires { ⌜ (part ≤ length (now buffer)) × (s .waiting ≤ length (now out)) × (s .from ≤ s .to) × (s .to ≤ length (now buffer)) ⌝ }
+    ensures { λ r. ⌜ (r .waiting ≤ s .waiting) × (r .from ≤ r .to) × (r .to ≤ length (now (buffer .entry))) ⌝ }
+{
+    let from = s.from;
+    let to = s.to;
+    if from < to {
+        let state = s.state;
+        let v = short_row(d, &buffer[from..to], state);
+        return end_at(d, to - from, v, s, out);
+    }
+    next_part(fd, path, part, progress, s, buffer, out)
+}
+
+// What a verdict on the records in hand asks for.
+fn settle(
     d: &[u8],
     fd: i32,
     path: &[u8],
     size: usize,
     part: usize,
+    progress: bool,
+    v: Verdict,
+    s: Sheet,
+    buffer: &mut [u8],
+    out: &[u8],
+) -> Sheet
+    requires { ⌜ (part ≤ length (now buffer)) × (s .waiting ≤ length (now out)) × (s .from ≤ s .to) × (s .to ≤ length (now buffer)) ⌝ }
+    ensures { λ r. ⌜ (r .waiting ≤ s .waiting) × (r .from ≤ r .to) × (r .to ≤ length (now (buffer .entry))) ⌝ }
+{
+    match v {
+        Verdict::Accepted => after_part(d, fd, path, part, progress, s, buffer, out),
+        Verdict::Room => make_room(d, size, v, s, out),
+        _ => end_at(d, size, v, s, out),
+    }
+}
+
+// Prints the records in hand, as far as they are accepted.
+fn print_rows(d: &[u8], size: usize, s: Sheet, buffer: &[u8], out: &mut [u8]) -> Run
+    requires { ⌜ (s .waiting ≤ length (now out)) × (s .from ≤ s .to) × (s .to ≤ length (now buffer)) ⌝ }
+    ensures { λ r. ⌜ (s .waiting + r .count ≤ length (now (out .entry))) × (s .from + r .done ≤ s .to) ⌝ }
+{
+    let from = s.from;
+    let to = s.to;
+    let at = s.waiting;
+    let state = s.state;
+    stream::generate_all(d, &buffer[from..to], size, state, &mut out[at..])
+}
+
+// Where the sheet stands after these records.
+fn advanced(s: Sheet, run: Run, size: usize, room: usize) -> Sheet
+    requires { ⌜ (1 ≤ size) × (s .waiting + run .count ≤ room) × (s .from + run .done ≤ s .to) ⌝ }
+    ensures { λ r. ⌜ (r .waiting ≤ room) × (r .from ≤ r .to) × (r .to ≡ s .to) ⌝ }
+{
+    let state = run.state;
+    Sheet {
+        state,
+        waiting: s.waiting + run.count,
+        from: s.from + run.done,
+        to: s.to,
+        rows: std::num::wrapping_add_u64(s.rows, (run.done / size) as u64),
+        more: true,
+        whole: true,
+    }
+}
+
+// One turn: the records in hand, then what their verdict asks for.
+fn turn(
+    d: &[u8],
+    fd: i32,
+    path: &[u8],
+    size: usize,
+    part: usize,
+    progress: bool,
     s: Sheet,
     buffer: &mut [u8],
     out: &mut [u8],
 ) -> Sheet
-    requires { ⌜ (1 ≤ size) × (part ≤ length (now buffer)) × (s .waiting ≤ length (now out)) ⌝ }
-    ensures { λ r. ⌜ r .waiting ≤ length (now (out .entry)) ⌝ }
+    requires { ⌜ (1 ≤ size) × (part ≤ length (now buffer)) × (s .waiting ≤ length (now out)) × (s .from ≤ s .to) × (s .to ≤ length (now buffer)) ⌝ }
+    ensures { λ r. ⌜ (r .waiting ≤ length (now (out .entry))) × (r .from ≤ r .to) × (r .to ≤ length (now (buffer .entry))) ⌝ }
 {
-    let n = read_part(fd, part, buffer);
-    let printed = print_part(d, &buffer[..n], size, s, out);
-    after_part(fd, path, n == part, printed)
+    let room = out.len();
+    let run = print_rows(d, size, s, buffer, out);
+    let v = run.verdict;
+    let after = advanced(s, run, size, room);
+    settle(d, fd, path, size, part, progress, v, after, buffer, out)
 }
 
 // Prints every record of an open file.
@@ -292,7 +218,7 @@ fn print_file(
     buffer: &mut [u8],
     out: &mut [u8],
 ) -> Sheet
-    requires { ⌜ (1 ≤ size) × (65536 ≤ length (now buffer)) × (s .waiting ≤ length (now out)) ⌝ }
+    requires { ⌜ (1 ≤ size) × (65536 ≤ length (now buffer)) × (s .waiting ≡ 0) × (s .from ≡ 0) × (s .to ≡ 0) ⌝ }
     ensures { λ r. ⌜ r .waiting ≤ length (now (out .entry)) ⌝ }
 {
     let part = RECORD_ROOM - RECORD_ROOM % size;
@@ -300,146 +226,140 @@ fn print_file(
     let mut turns = u64::MAX;
     while turns > 0 && sheet.more {
         turns -= 1;
-        let next = next_part(d, fd, path, size, part, sheet, buffer, out);
+        let next = turn(d, fd, path, size, part, progress, sheet, buffer, out);
         sheet = next;
-        if progress {
-            tell_rows(sheet.rows);
-        }
     }
     sheet
 }
 
 // ---- the program
-// Ends the report and writes the rest of the sheet.
+// TERMINATE: the verdict, and the bytes that it printed.
+struct Ended {
+    verdict: Verdict,
+    count: usize,
+}
+
+fn terminated(d: &[u8], state: State, out: &mut [u8]) -> Ended
+    ensures { λ r. ⌜ r .count ≤ length (now (out .entry)) ⌝ }
+{
+    let n = out.len();
+    let report = Report { state };
+    let a = report.terminate(d, out);
+    let verdict = a.verdict;
+    Ended {
+        verdict,
+        count: counts::least(a.count, n),
+    }
+}
+
+// Writes what waits; where the sheet is whole so far, ends the report and writes the rest.
 fn finish(d: &[u8], s: Sheet, out: &mut [u8])
     requires { ⌜ s .waiting ≤ length (now out) ⌝ }
 {
-    if flush(out, s.waiting) {
+    let is_written = console::flush(out, s.waiting);
+    if is_written & s.whole {
         let state = s.state;
-        let report = Report { state };
-        let a = report.terminate(d, out);
-        let v = a.verdict;
-        let count = counts::least(a.count, out.len());
-        if v.number() == 0 {
-            flush(out, count);
+        let e = terminated(d, state, out);
+        let v = e.verdict;
+        let number = v.number();
+        if number == 0 {
+            console::flush(out, e.count);
         } else {
-            say(b"sheet: TERMINATE");
-            tell_refusal(v);
+            console::say(b"sheet: TERMINATE: ");
+            console::refusal(d, 0, number, v.extra());
         }
     }
 }
 
-// The length of a record; 0 in a file too short for a description.
-fn record_length(d: &[u8]) -> usize {
+// The length of a record, in an accepted description; 1 where there is none.
+fn record_length(d: &[u8]) -> usize
+    ensures { λ r. ⌜ 1 ≤ r ⌝ }
+{
     if d.len() < 48 {
-        return 0;
+        return 1;
     }
-    file::setting_of(d, 6)
+    let h = tables::head_of(d);
+    let n = tables::wide(h.reclen);
+    if n == 0 {
+        return 1;
+    }
+    n
+}
+
+// INITIATE of a fresh report, told where it is refused.
+fn initiated(d: &[u8]) -> Sheet
+    ensures { λ r. ⌜ (r .waiting ≡ 0) × (r .from ≡ 0) × (r .to ≡ 0) ⌝ }
+{
+    let fresh = Report {
+        state: State::fresh(),
+    };
+    let a = fresh.initiate(d);
+    let state = a.state;
+    let v = a.verdict;
+    let is_accepted = v.number() == 0;
+    if !is_accepted {
+        console::say(b"sheet: ");
+        console::refusal(d, 0, v.number(), v.extra());
+    }
+    Sheet {
+        state,
+        waiting: 0,
+        from: 0,
+        to: 0,
+        rows: 0,
+        more: is_accepted,
+        whole: is_accepted,
+    }
 }
 
 // INITIATE, the records, TERMINATE.
 fn print_sheet(d: &[u8], fd: i32, path: &[u8], progress: bool, buffer: &mut [u8], out: &mut [u8])
     requires { ⌜ 65536 ≤ length (now buffer) ⌝ }
 {
-    let state = State::fresh();
-    let fresh = Report { state };
-    let a = fresh.initiate(d);
-    let v = a.verdict;
-    if v.number() != 0 {
-        say(b"sheet: INITIATE");
-        tell_refusal(v);
-        return;
-    }
-    let state = a.state;
-    let start = Sheet {
-        state,
-        waiting: 0,
-        rows: 0,
-        more: true,
-        whole: true,
-    };
+    let start = initiated(d);
     let size = record_length(d);
-    if size == 0 {
-        return;
-    }
     let s = print_file(d, fd, path, size, start, progress, buffer, out);
-    if s.whole {
-        finish(d, s, out);
-    } else {
-        flush(out, s.waiting);
-    }
-}
-
-// Opens a file for reading; tells where it cannot.
-fn opened(path: &[u8]) -> i32 {
-    let fd = os::open_read(path);
-    if fd < 0 {
-        tell_failure(path);
-    }
-    fd
+    finish(d, s, out);
 }
 
 // The description and the records, each by its path.
 fn print_files(description: &[u8], records: &[u8], progress: bool) {
-    let fd = opened(description);
+    let fd = console::opened(description);
     if fd < 0 {
         return;
     }
     let mut d = [0u8; DESCRIPTION_ROOM];
     let n = io::read_full(fd, &mut d);
-    if n < DESCRIPTION_ROOM && is_unreadable(fd) {
-        tell_failure(description);
+    if console::is_unreadable(0, fd, description) {
         return;
     }
     libc::close(fd);
-    let fd = opened(records);
+    let fd = console::opened(records);
     if fd < 0 {
         return;
     }
     let mut buffer = io::large_buffer();
-    let mut out = sheet_buffer();
+    let mut out = [0u8; SHEET_ROOM];
     print_sheet(&d[..n], fd, records, progress, &mut buffer, &mut out);
     libc::close(fd);
 }
 
-// Whether argument `i` is a word.
-fn is_word(i: usize, word: &[u8]) -> bool {
-    let mut text = [0u8; 16];
-    let n = os::arg(i, &mut text);
-    if os::errno() != 0 {
-        return false;
-    }
-    is_same(&text[..n], word)
-}
-
-fn is_same(a: &[u8], b: &[u8]) -> bool {
-    if a.len() != b.len() {
-        return false;
-    }
-    let mut i = 0;
-    while i < a.len() {
-        if a[i] != b[i] {
-            return false;
-        }
-        i += 1;
-    }
-    true
-}
-
-fn main() {
-    if is_word(1, b"--help") || is_word(1, b"-h") {
-        help(STDOUT_FILENO);
-        return;
-    }
-    let progress = is_word(1, b"--progress");
-    let first = 1 + counts::one_if(progress);
-    if os::arg_count() != first + 2 {
-        usage(STDERR_FILENO);
-        return;
-    }
+// The sheet of the two files from argument `first` on.
+fn print_arguments(first: usize, progress: bool) {
     let mut description = io::buffer();
     let n = os::arg(first, &mut description);
     let mut records = io::buffer();
-    let m = os::arg(first + 1, &mut records);
+    let m = os::arg(std::num::wrapping_add_usize(first, 1), &mut records);
     print_files(&description[..n], &records[..m], progress);
+}
+
+fn main() {
+    if console::is_helped() {
+        return;
+    }
+    let progress = console::is_word(1, b"--progress");
+    let first = 1 + counts::one_if(progress);
+    if console::is_usable(first) {
+        print_arguments(first, progress);
+    }
 }

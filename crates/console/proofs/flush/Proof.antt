@@ -1,4 +1,4 @@
--- `sheet::flush` meets its contract: what waits is a part of the output.
+-- `console::flush` meets its contract: what waits is a part of the output.
 -- Assumes nothing.
 use Prim.Native.Nat.{_-_, _≤_, _<_, _^_}
 use mathlib.Core.Path.{_≡_, sym}
@@ -6,8 +6,8 @@ use native.Mathlib.Omega.{arith}
 use borrow.Author.Needs.{needs}
 use lib.ListN.{length}
 use lib.Seq.{length-take-le}
-use Rattle.sheet.proofs.flush.Statement.{statement}
-use Rattle.sheet.proofs.flush.Tie as tie
+use Rattle.console.proofs.flush.Statement.{statement}
+use Rattle.console.proofs.flush.Tie as tie
 
 slice-aggregate-write-all : tie.Need-slice-aggregate-write-all
 slice-aggregate-write-all c = sym (length-take-le (c .before .before .args .waiting) (c .before .before .args .out .now) (c .before .before .pre))
@@ -15,11 +15,11 @@ slice-aggregate-write-all c = sym (length-take-le (c .before .before .args .wait
 write-all-requires : tie.Need-write-all-requires
 write-all-requires c κs = search needs
 
-slice-aggregate-tell-failure : tie.Need-slice-aggregate-tell-failure
-slice-aggregate-tell-failure c = search needs
+slice-aggregate-failure : tie.Need-slice-aggregate-failure
+slice-aggregate-failure c = search needs
 
-tell-failure-requires : tie.Need-tell-failure-requires
-tell-failure-requires c κs = search needs
+failure-requires : tie.Need-failure-requires
+failure-requires c κs = search needs
 
 returns : tie.Need-returns
 returns c = search needs
@@ -33,7 +33,7 @@ flush-spec =
     (tie.spec
     slice-aggregate-write-all
     write-all-requires
-    slice-aggregate-tell-failure
-    tell-failure-requires
+    slice-aggregate-failure
+    failure-requires
     returns
     returns-2)

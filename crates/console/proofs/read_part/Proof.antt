@@ -1,4 +1,4 @@
--- `sheet::read_part` meets its contract: what is read is a part of the buffer.
+-- `console::read_part` meets its contract: what is read is a part of the buffer.
 -- Assumes nothing.
 use Prim.Native.Nat.{_-_, _≤_, _<_, _^_}
 use mathlib.Core.Path.{_≡_, sym}
@@ -6,8 +6,8 @@ use native.Mathlib.Omega.{arith}
 use borrow.Author.Needs.{needs}
 use lib.ListN.{length}
 use lib.Seq.{length-take-le}
-use Rattle.sheet.proofs.read_part.Statement.{statement}
-use Rattle.sheet.proofs.read_part.Tie as tie
+use Rattle.console.proofs.read_part.Statement.{statement}
+use Rattle.console.proofs.read_part.Tie as tie
 
 slice-relend-prefix-read-full : tie.Need-slice-relend-prefix-read-full
 slice-relend-prefix-read-full c = search needs

@@ -1,12 +1,12 @@
--- `sheet::is_same` meets its contract.
+-- `console::is_same` meets its contract.
 -- Assumes nothing.
 use Prim.Native.Nat.{_-_, _≤_, _<_, _^_}
 use mathlib.Core.Path.{_≡_, sym}
 use native.Mathlib.Omega.{arith}
 use borrow.Author.Needs.{needs}
 use lib.ListN.{length}
-use Rattle.sheet.proofs.is_same.Statement.{statement}
-use Rattle.sheet.proofs.is_same.Tie as tie
+use Rattle.console.proofs.is_same.Statement.{statement}
+use Rattle.console.proofs.is_same.Tie as tie
 
 abbrev Inv-loop : tie.InvT-loop
 Inv-loop a b i₀ i =

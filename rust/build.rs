@@ -9,8 +9,6 @@ fn main() {
     let folder = std::env::var(FOLDER).unwrap_or(default);
     println!("cargo:rustc-link-search=native={folder}");
     println!("cargo:rustc-link-lib=static=report_c");
-    // The test of the C header links it too.
-    println!("cargo:rustc-env={FOLDER}={folder}");
     println!("cargo:rerun-if-env-changed={FOLDER}");
     println!("cargo:rerun-if-changed={folder}/libreport_c.a");
 }

@@ -1,0 +1,114 @@
+/* `stack DESCRIPTION RECORDS`: the bytes of stack that each call for C needs, the most of all rows. Every call is made in a
+ * thread whose stack is painted beforehand; what a thread without a call touches is taken off. */
+#define _XOPEN_SOURCE 600
+#include <pthread.h>
+#include <stdio.h>
+#include <stdlib.h>
+#include <string.h>
+
+#include "bailcurlew.h"
+
+enum { STACK = 1 << 20, PAINT = 0xa5, ROOM = (28 * 16 + 17 * 2 * 2 * 16) * 142 };
+
+static uint8_t description[65536], records[1 << 20], output[ROOM], state[BAILCURLEW_STATE];
+static uint64_t answer[3];
+static size_t length, step, at;
+static uint8_t *painted;
+
+static size_t read_file(const char *name, uint8_t *bytes, size_t room)
+{
+    FILE *file = fopen(name, "rb");
+    if (file == NULL) {
+        perror(name);
+        exit(1);
+    }
+    size_t count = fread(bytes, 1, room, file);
+    fclose(file);
+    return count;
+}
+
+static void *nothing(void *unused)
+{
+    return unused;
+}
+
+static void *check(void *unused)
+{
+    bailcurlew_check(description, length);
+    return unused;
+}
+
+static void *initiate(void *unused)
+{
+    bailcurlew_initiate(description, length, state, answer);
+    return unused;
+}
+
+static void *generate(void *unused)
+{
+    bailcurlew_generate(description, length, state, 0, records + at, step, output, sizeof output, answer);
+    return unused;
+}
+
+static void *terminate(void *unused)
+{
+    bailcurlew_terminate(description, length, state, output, sizeof output, answer);
+    return unused;
+}
+
+static void expect(int is_right, const char *what)
+{
+    if (!is_right) {
+        fprintf(stderr, "stack: %s failed\n", what);
+        exit(1);
+    }
+}
+
+/* Runs a function in a thread on the painted stack; how much of it is no longer paint, from its far end. */
+static size_t used(void *(*call)(void *))
+{
+    pthread_t thread;
+    pthread_attr_t attributes;
+    size_t clean = 0;
+    memset(painted, PAINT, STACK);
+    expect(pthread_attr_init(&attributes) == 0, "pthread_attr_init");
+    expect(pthread_attr_setstack(&attributes, painted, STACK) == 0, "pthread_attr_setstack");
+    expect(pthread_create(&thread, &attributes, call, NULL) == 0, "pthread_create");
+    expect(pthread_join(thread, NULL) == 0, "pthread_join");
+    pthread_attr_destroy(&attributes);
+    while (clean < STACK && painted[clean] == PAINT)
+        clean++;
+    return STACK - clean;
+}
+
+static size_t accepted(size_t used)
+{
+    expect(answer[BAILCURLEW_NUMBER] == BAILCURLEW_ACCEPTED, "a call");
+    return used;
+}
+
+int main(int argc, char **argv)
+{
+    void *memory = NULL;
+    if (argc != 3) {
+        fprintf(stderr, "usage: stack DESCRIPTION RECORDS\n");
+        return 2;
+    }
+    length = read_file(argv[1], description, sizeof description);
+    size_t end = read_file(argv[2], records, sizeof records);
+    step = description[length - 4] + 256u * description[length - 3];
+    expect(posix_memalign(&memory, 4096, STACK) == 0, "posix_memalign");
+    painted = memory;
+
+    size_t base = used(nothing), most = 0;
+    printf("check %zu\n", used(check) - base);
+    bailcurlew_fresh(state);
+    printf("initiate %zu\n", accepted(used(initiate)) - base);
+    for (at = 0; at + step <= end; at += step) {
+        size_t now = accepted(used(generate));
+        most = now > most ? now : most;
+    }
+    printf("generate %zu\n", most - base);
+    printf("terminate %zu\n", accepted(used(terminate)) - base);
+    return 0;
+}
