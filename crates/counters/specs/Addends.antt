@@ -4,7 +4,7 @@ use mathlib.Core.Bool.{Bool, cond, _&&_, _||_}
 use mathlib.Core.List.{List}
 use lib.Dec.{leb, ltb, eqb}
 use Rattle.tables.specs.declared.Head.{Head}
-use Rattle.tables.specs.Kinds.{fieldNumber, addendField, addendCounter}
+use Rattle.tables.specs.Kinds.{kindNumber, addendField, addendCounter}
 use Rattle.tables.specs.Table.{fieldKind, levelOf, counterGroup, addendKind, addendIndex, addendMask}
 
 -- "mask nonzero and naming details only": a mask has "bit i for detail i", and there are d details
@@ -14,7 +14,7 @@ maskOk d mask = leb 1 mask && ltb mask (2 ^ d)
 -- "Field addends: number fields, mask nonzero and naming details only."
 unfoldable pub fieldAddendOk : Head → List ℕ → ℕ → ℕ → Bool
 fieldAddendOk h t d a =
-    ltb (addendIndex h t a) (h .fields) && eqb (fieldKind t (addendIndex h t a)) fieldNumber && maskOk d (addendMask h t a)
+    ltb (addendIndex h t a) (h .fields) && eqb (fieldKind t (addendIndex h t a)) kindNumber && maskOk d (addendMask h t a)
 
 -- the level of counter k's group
 abbrev pub counterLevel : Head → List ℕ → ℕ → ℕ

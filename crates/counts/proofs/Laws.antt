@@ -113,12 +113,6 @@ sum-part f i zero h = absurd (not-suc-le-zero h)
 sum-part f i (suc n) h =
     ⊎-elim (λ (q : i ≡ n). rw q (omega arith)) (λ (l : i < n). let z = sum-part f i n l in omega arith) (eq-or-lt-of-le (le-of-suc-le-suc h))
 
--- a sum taken from the front
-pub sum-front : (f : ℕ → ℕ) (n : ℕ) → sumBelow (suc n) f ≡ f 0 + sumBelow n (λ k. f (suc k))
-unfolding sumBelow
-sum-front f zero = omega arith
-sum-front f (suc n) = let z = sum-front f n in let w : sumBelow (suc n) f ≡ sumBelow n f + f n = refl in omega arith
-
 -- one turn of a fold
 pub fold-next : {A : Type 0} (f : ℕ → A → A) (i : ℕ) (a : A) {s r : A} → s ≡ foldBelow i f a → r ≡ f i s → r ≡ foldBelow (i + 1) f a
 unfolding foldBelow

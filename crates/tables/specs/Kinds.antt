@@ -2,11 +2,11 @@
 use Prim.Native.Nat.{ℕ}
 
 -- "kind (0 text, 1 number)"
-abbrev pub fieldText : ℕ
-fieldText = 0
+abbrev pub kindText : ℕ
+kindText = 0
 
-abbrev pub fieldNumber : ℕ
-fieldNumber = 1
+abbrev pub kindNumber : ℕ
+kindNumber = 1
 
 -- "type (0 report heading RH, 1 page heading PH, 2 control heading CH, 3 detail DE, 4 control footing CF, 5 page footing PF, 6 report footing RF)"
 abbrev pub typeRH : ℕ
