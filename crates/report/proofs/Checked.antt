@@ -11,7 +11,7 @@ use Rattle.tables.specs.Table.{table, literals}
 use Rattle.description.specs.declared.Checked.{Checked}
 use Rattle.description.specs.declared.Checked.the-variants.{Accepted, Broken}
 use Rattle.description.specs.Check.{judged, checked}
-use Rattle.description.proofs.Answer.{d1-kept}
+use Rattle.description.proofs.Answer.{d1-passed}
 use Rattle.accepted.specs.Accepted as facts
 use Rattle.accepted.proofs.Accept.{accepted}
 use Rattle.state.specs.declared.State.{State}
@@ -24,7 +24,7 @@ use Rattle.report.specs.Calls.{call}
 
 module _ (d : List ℕ) (h : Head) (t lits : List ℕ) (eh : h ≡ headOf d) (et : t ≡ table d) (el : lits ≡ literals d) (o : ruleD1 d ≡ true) where
   pub judged-so : (x : Checked) → x ≡ judged h t lits → checked d ≡ x
-  judged-so x e = d1-kept d o ∙ sym (rw (eh, et, el) at e)
+  judged-so x e = d1-passed d o ∙ sym (rw (eh, et, el) at e)
 
   pub accepted-so : Accepted ≡ judged h t lits → facts.Accepted h t lits
   accepted-so e = rw (eh, et, el) (accepted d (judged-so Accepted e))
