@@ -1,11 +1,13 @@
-// The text of items and lines.
+// The text of items and lines, and the printed record of a line.
 ghost use mathlib.Core.Path.{_≡_};
 ghost use mathlib.Core.Bool.{cond};
 ghost use Prim.Native.Nat.{_+_, _≤_, _<_};
 ghost use lib.ListN.{length};
+ghost use Rattle.splice.specs.Splice.{Wrote};
+ghost use Rattle.printed.specs.Printed.{Short};
 ghost use Rattle.rows.specs.Facts.{FieldFormed};
 ghost use Rattle.compose.specs.Items.{inputs, onPage, onLine, literalText, fieldText, counterText, sumText, sourceText};
-ghost use Rattle.compose.specs.Lines.{atColumn, withItem, lineText};
+ghost use Rattle.compose.specs.Lines.{atColumn, withItem, lineText, lineBytes};
 ghost use Rattle.compose.specs.Facts.{Fits, ItemReady, LineReady};
 use number::parse;
 use printed::Prefix;
@@ -20,6 +22,13 @@ pub struct View {
     pub from_kept: bool,
     pub flag: bool,
     pub prefix: Prefix,
+}
+
+// A line to print: which one, its view, and the offset in the output.
+pub struct Line {
+    pub index: usize,
+    pub view: View,
+    pub at: usize,
 }
 
 // The view of another line: on another page, or of the same group.
@@ -150,7 +159,7 @@ fn put_item<'a>(
 }
 
 // The text of line l: blanks, with its items written into them.
-pub fn line_text<'a>(
+fn line_text<'a>(
     t: &[u16],
     h: Head,
     lits: &[u8],
@@ -173,4 +182,25 @@ pub fn line_text<'a>(
         m += 1;
     }
     text
+}
+
+// Puts the printed record of a line, and gives the offset behind it.
+pub fn put_line<'a>(
+    t: &[u16],
+    h: Head,
+    lits: &[u8],
+    kept: &'a [u8],
+    row: &'a [u8],
+    sums: &[i64],
+    x: Line,
+    out: &mut [u8],
+) -> usize
+    requires { ⌜ LineReady h (now t) (inputs (now lits) (now kept) (now row) (now sums)) (x .view) (x .index) × (Short (x .view .prefix) × (x .at + length (lineBytes h (now t) (inputs (now lits) (now kept) (now row) (now sums)) (x .view) (x .index)) ≤ length (now out))) ⌝ }
+    ensures { λ r. ⌜ Wrote (now (out .entry)) (x .at) (lineBytes h (now (t .entry)) (inputs (now (lits .entry)) (now (kept .entry)) (now (row .entry)) (now (sums .entry))) (x .view) (x .index)) (now (out .exit)) r ⌝ }
+{
+    let v = x.view;
+    let prefix = v.prefix;
+    let text = line_text(t, h, lits, kept, row, sums, v, x.index);
+    let w = tables::wide(h.width);
+    printed::put_record(prefix, v.page, v.line, w, &text, x.at, out)
 }

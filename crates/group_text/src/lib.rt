@@ -5,6 +5,7 @@ ghost use Rattle.splice.specs.Splice.{Wrote};
 ghost use Rattle.compose.specs.Items.{inputs};
 ghost use Rattle.group_text.specs.Groups.{groupBytes};
 ghost use Rattle.group_text.specs.Facts.{GroupReady};
+use compose::Line;
 use compose::View;
 use tables::Head;
 
@@ -32,16 +33,18 @@ pub fn print_group<'a>(
     let first = p.first;
     let start = tables::group_num(t, h, p.group, 2);
     let n = tables::group_num(t, h, p.group, 3);
-    let w = tables::wide(h.width);
     let mut line = first.line;
     let mut to = p.at;
     let mut k = 0;
     while k < n {
-        let view = p.first;
-        let v = compose::on_line(view, line);
-        let text = compose::line_text(t, h, lits, kept, row, sums, v, start + k);
-        let prefix = v.prefix;
-        to = printed::put_record(prefix, v.page, line, w, &text, to, out);
+        let from = p.first;
+        let view = compose::on_line(from, line);
+        let x = Line {
+            index: start + k,
+            view,
+            at: to,
+        };
+        to = compose::put_line(t, h, lits, kept, row, sums, x, out);
         line += tables::line_num(t, h, start + 1 + k, 1) as u64;
         k += 1;
     }
