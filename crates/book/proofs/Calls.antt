@@ -48,7 +48,7 @@ use Rattle.state.specs.State.{freshAt}
 use Rattle.state.specs.Rules.{stateOk}
 use Rattle.calls.specs.Result.{placeOf}
 use Rattle.calls.specs.Result.{refuse, Work, moved, settled}
-use Rattle.refusals.specs.Stages.{startTried, begunTried, recordTried, rowTried}
+use Rattle.refusals.specs.Stages.{recordTried}
 use Rattle.calls.specs.Calls.{cleared, firstWork, flagsAt, breaks, laterWork, rowWork, lastWork, begun, ended, callOn}
 use Rattle.report.specs.Calls as calls
 use Rattle.book.specs.Book.{Call, initiate, generate, terminate, Book, freshPos, freshBook, dueFor, turned, enter}
@@ -110,7 +110,7 @@ module _ (d : List ℕ) (accepts : checked d ≡ Accepted) (A : facts.Accepted (
     }
 
     pub initiate-ok : Ok d Tracks s b initiate (reads d s initiate) (answer d s initiate out)
-    unfolding calls.call callOn startTried
+    unfolding calls.call callOn
     initiate-ok =
         rw (accepts, T .kept)
         (by-test (eqb (s .phase) idle)
@@ -284,7 +284,7 @@ module _ (d : List ℕ) (accepts : checked d ≡ Accepted) (A : facts.Accepted (
     no-ok c reading v l m e = refused-ok d Tracks b c reading s out T v l m e
 
     pub generate-ok : (i : ℕ) (row : List ℕ) → Ok d Tracks s b (generate i row) (reads d s (generate i row)) (answer d s (generate i row) out)
-    unfolding calls.call callOn rowTried begunTried recordTried
+    unfolding calls.call callOn recordTried
     generate-ok i row =
         rw (accepts, T .kept)
         (by-test (eqb (s .phase) idle)
@@ -365,7 +365,7 @@ module _ (d : List ℕ) (accepts : checked d ≡ Accepted) (A : facts.Accepted (
           (λ o l. idle-tracks (moved w3 (w3 .laid .to)) _ phase3 (idle3 l) long3 refl)
 
     pub terminate-ok : Ok d Tracks s b terminate (reads d s terminate) (answer d s terminate out)
-    unfolding calls.call callOn begunTried
+    unfolding calls.call callOn
     terminate-ok =
         rw (accepts, T .kept)
         (by-test (eqb (s .phase) idle)
