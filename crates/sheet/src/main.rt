@@ -3,6 +3,7 @@ ghost use Prim.Native.Nat.{_≤_};
 ghost use mathlib.Core.Path.{_≡_};
 ghost use lib.ListN.{length};
 ghost use Rattle.io.specs.Counts.{Counts};
+use description::Checked;
 use libc::STDERR_FILENO;
 use libc::STDOUT_FILENO;
 use refusals::Verdict;
@@ -338,10 +339,17 @@ fn record_length(d: &[u8]) -> usize {
     tables::wide(h.reclen)
 }
 
-// INITIATE, the records, TERMINATE.
+// CHECK, INITIATE, the records, TERMINATE. INITIATE would refuse what CHECK refuses; but where a program has only one use of the
+// rules D2 to D8, the compiler sets them into the call, and a row costs 440 instructions more.
 fn print_sheet(d: &[u8], fd: i32, path: &[u8], progress: bool, buffer: &mut [u8], out: &mut [u8])
     requires { ⌜ 65536 ≤ length (now buffer) ⌝ }
 {
+    let checked = description::check(d);
+    if let Checked::Broken(rule) = checked {
+        say(b"sheet: INITIATE");
+        tell_refusal(Verdict::Description(rule));
+        return;
+    }
     let state = State::fresh();
     let fresh = Report { state };
     let a = fresh.initiate(d);
