@@ -26,7 +26,8 @@ use Rattle.refusals.specs.Verdict.{number}
 use Rattle.state.specs.State.{freshAt}
 use Rattle.state.specs.Rules.{stateOk}
 use Rattle.calls.specs.Result.{Result, refuse, settled}
-use Rattle.refusals.specs.Stages.{startTried, begunTried, recordTried, rowTried}
+use Rattle.refusals.specs.Stages.{recordTried}
+use Rattle.calls.specs.declared.Asked.the-variants as asked
 use Rattle.calls.specs.Calls.{rowWork, lastWork, callOn}
 use Rattle.report.specs.Calls.{ifAccepted}
 use Rattle.report.specs.Calls as calls
@@ -48,15 +49,15 @@ module _ (d : List ℕ) (s : State) (out : List ℕ) where
   -- what is to be shown of each branch
   pub record Branches (P : Call → Result → Type 0) : Type 0 where
     pub no : (c : Call) (v : Verdict) → 1 ≤ number v → number v ≤ 9 → P c (refuse s out v)
-    pub silent : (c : Call) (phase : ℕ) → work d s c ≡ [] → next d s c ≡ freshAt phase → P c (record { answer = record { verdict = verdict.Accepted; count = 0; report = freshAt phase }; out = out })
+    pub silent : (c : Call) (phase : ℕ) → work d s c ≡ [] → next d s c ≡ freshAt phase → P c (record { answer = record { verdict = verdict.Accepted; count = 0; state = freshAt phase }; out = out })
     pub row : checked d ≡ Accepted → (i : ℕ) (row : List ℕ) → length row ≡ h .reclen → P (generate i row) (settled h t s (rowWork h t (literals d) s i row) out)
     pub last : checked d ≡ Accepted → eqb (s .phase) started ≡ false → P terminate (settled h t s (lastWork h t (literals d) s) out)
 
   module _ (P : Call → Result → Type 0) (B : Branches P) where
     initiates : P initiate (answer d s initiate out)
-    unfolding calls.initiate initiatedOn startTried
+    unfolding calls.call callOn
     initiates =
-        by-check (λ k. P initiate (ifAccepted k s out (initiatedOn h t s out))) (checked d)
+        by-check (λ k. P initiate (ifAccepted k s out (callOn h t (literals d) s asked.Initiate [] out))) (checked d)
         (λ a. by-test (stateOk h t s)
         (λ k. by-test (eqb (s .phase) idle)
         (λ e. rw (k, e) (B .silent initiate started refl refl))
@@ -65,9 +66,9 @@ module _ (d : List ℕ) (s : State) (out : List ℕ) where
         (λ n. B .no initiate (verdict.Description n) (omega arith) (omega arith))
 
     generates : (i : ℕ) (row : List ℕ) → P (generate i row) (answer d s (generate i row) out)
-    unfolding calls.generate generatedOn rowTried
+    unfolding calls.call callOn recordTried
     generates i row =
-        by-check (λ k. P (generate i row) (ifAccepted k s out (generatedOn h t (literals d) s i row out))) (checked d)
+        by-check (λ k. P (generate i row) (ifAccepted k s out (callOn h t (literals d) s (asked.Generate i) row out))) (checked d)
         (λ a. by-test (stateOk h t s)
         (λ k. by-test (eqb (s .phase) idle)
         (λ n. rw (k, n) (B .no (generate i row) verdict.Phase (omega arith) (omega arith)))
@@ -82,9 +83,9 @@ module _ (d : List ℕ) (s : State) (out : List ℕ) where
         (λ n. B .no (generate i row) (verdict.Description n) (omega arith) (omega arith))
 
     terminates : P terminate (answer d s terminate out)
-    unfolding calls.terminate terminatedOn endTried
+    unfolding calls.call callOn
     terminates =
-        by-check (λ k. P terminate (ifAccepted k s out (terminatedOn h t (literals d) s out))) (checked d)
+        by-check (λ k. P terminate (ifAccepted k s out (callOn h t (literals d) s asked.Terminate [] out))) (checked d)
         (λ a. by-test (stateOk h t s)
         (λ k. by-test (eqb (s .phase) idle)
         (λ n. rw (k, n) (B .no terminate verdict.Phase (omega arith) (omega arith)))

@@ -37,7 +37,7 @@ use Rattle.book.proofs.Theorem.{demand3}
 use Rattle.demands.specs.Calls.{Refuses, next, Works}
 use Rattle.demands.specs.Bytes.{Left, printedBytes, leaving, leaves, runBytes, RefusesBytes, WorksBytes, Demand1Bytes, written, Demand3Bytes}
 use Rattle.demands.proofs.Calls.{whole, refusal}
-use Rattle.demands.proofs.Sizes.{Sized, fresh-sized, sized}
+use Rattle.demands.proofs.Sizes.{Lengths, fresh-sized, sized}
 
 -- a call with a number above 0 was not accepted
 not-accepted : (n : ℕ) → 1 ≤ n → eqb n 0 ≡ false
@@ -91,12 +91,12 @@ module _ (d : List ℕ) where
 
     in-range : (s : State) (b : Book) → Tracked s b → sumsOk (s .sums) ≡ true
     in-range s b T =
-        by-phase h t (s .page) (s .line) (s .seen) (s .saved) (s .sums) (s .flags) (s .kept) (s .phase) (T .kept) (λ e. L .idle-facts s e (T .kept) .sumsIn)
+        by-phase h t s (T .kept) (λ e. L .idle-facts s e (T .kept) .sumsIn)
         (λ e. rw (T .begins e .0) (L .zero-sums .range))
         (λ e. L .run-facts s e (T .kept) .sumsIn)
 
     -- a state that the run hands on, read from its bytes, is the state
-    read-back : (s : State) (b : Book) → Tracked s b → Sized s → stateOf (bytesOf s) ≡ s
+    read-back : (s : State) (b : Book) → Tracked s b → Lengths s → stateOf (bytesOf s) ≡ s
     read-back s b T z = state-again s (in-bytes s (T .sumsLong) (z .flags) (in-range s b T))
 
     stored-next : (s : State) (u : Use) → stored (bytesOf s) (did d s u .result .answer) ≡ bytesOf (did d s u .result .answer .state)
@@ -104,7 +104,7 @@ module _ (d : List ℕ) where
         by-test (taken d (did d s u .result)) (λ e. rw e refl)
         (λ e. rw e (sym (ap bytesOf (refusal d s (u .out) (u .call) e .state))))
 
-    step : (s : State) (b : Book) → Tracked s b → Sized s → (u : Use) → leaves d (bytesOf s) u ≡ written d (did d s u)
+    step : (s : State) (b : Book) → Tracked s b → Lengths s → (u : Use) → leaves d (bytesOf s) u ≡ written d (did d s u)
     step s b T z u =
         ap (λ (x : State). leaving (bytesOf s) (answer d x (u .call) (u .out))) (read-back s b T z)
         ∙ ap (λ (x : List ℕ). record { state = x; out = did d s u .result .out; numbers = written d (did d s u) .numbers }) (stored-next s u)
@@ -113,14 +113,14 @@ module _ (d : List ℕ) where
     next-tracked : (s : State) (b : Book) (T : Tracked s b) (u : Use) → Tracked (did d s u .result .answer .state) (enter h t b (u .call) (taken d (did d s u .result)) .next)
     next-tracked s b T u = call-ok d a A L s b T (u .out) (u .call) .next
 
-    runs : (us : List Use) (s : State) (b : Book) → Tracked s b → Sized s → runBytes d (bytesOf s) us ≡ map (written d) (run d s us)
+    runs : (us : List Use) (s : State) (b : Book) → Tracked s b → Lengths s → runBytes d (bytesOf s) us ≡ map (written d) (run d s us)
     unfolding runBytes run
     runs [] s b T z = refl
     runs (u ∷ us) s b T z =
         let e = step s b T z u in
         ap₂ _∷_ e (ap (λ (l : Left). runBytes d (l .state) us) e ∙ runs us (did d s u .result .answer .state) _ (next-tracked s b T u) (sized d s (u .out) z (u .call)))
 
-    longs : (us : List Use) (s : State) (b : Book) → Tracked s b → Sized s → All (λ l. length (l .state) ≡ 530) (map (written d) (run d s us))
+    longs : (us : List Use) (s : State) (b : Book) → Tracked s b → Lengths s → All (λ l. length (l .state) ≡ 530) (map (written d) (run d s us))
     unfolding run
     longs [] s b T z = tt
     longs (u ∷ us) s b T z =

@@ -21,9 +21,11 @@ use Rattle.description.specs.Check.{checked}
 use Rattle.accepted.proofs.Accept.{accepted}
 use Rattle.compose.specs.Facts.{ItemsIn}
 use Rattle.layout.specs.Lines.{lineTotal}
-use Rattle.pages.specs.Bytes.{dueBytes, byteCount}
+use Rattle.printed.specs.Printed.{noPrefix, Short}
+use Rattle.printed.proofs.Laws.{no-prefix-short}
+use Rattle.call_text.specs.Bytes.{dueBytes, byteCount}
 use Rattle.pages.specs.Outcome.{pastLast, tooShort, outcome, written}
-use Rattle.pages.proofs.Bytes.{GroupsIn, in-layout, length-dueBytes, printed-part}
+use Rattle.call_text.proofs.Bytes.{GroupsIn, in-layout, length-dueBytes, printed-part}
 use Rattle.state.specs.State.{started}
 use Rattle.state.specs.declared.State.{State}
 use Rattle.refusals.specs.declared.Verdict.{Verdict}
@@ -50,24 +52,27 @@ module _ (d : List ℕ) (s : State) (out : List ℕ) where
   refused : (c : Call) (v : Verdict) → 1 ≤ number v → number v ≤ 9 → Whole c (refuse s out v)
   refused c v a b = inr (record { listed = (a, b); state = refl; count = refl; output = refl })
 
-  silent : (c : Call) (phase : ℕ) → work d s c ≡ [] → next d s c ≡ freshAt phase → Whole c (record { answer = record { verdict = verdict.Accepted; count = 0; report = freshAt phase }; out = out })
+  silent : (c : Call) (phase : ℕ) → work d s c ≡ [] → next d s c ≡ freshAt phase → Whole c (record { answer = record { verdict = verdict.Accepted; count = 0; state = freshAt phase }; out = out })
   unfolding dueBytes byteCount lineTotal
   silent c phase e n = inl (record { accepted = refl; state = sym n; lines = rw e refl; count = rw e (omega arith); room = omega arith; size = refl; rest = refl })
 
   -- a call that prints: 7, 8 and 9, else its lines
-  module _ (c : Call) (w : Work) (items : ItemsIn h t (w .inputs .lits)) (groups : GroupsIn h (w .laid .dues)) (r : reads d s c ≡ w .inputs) (e : work d s c ≡ w .laid .dues) (n : next d s c ≡ moved w (w .laid .to)) where
+  module _ (c : Call) (w : Work) (items : ItemsIn h t (w .inputs .lits)) (plain : w .inputs .prefix ≡ noPrefix) (groups : GroupsIn h (w .laid .dues)) (r : reads d s c ≡ w .inputs) (e : work d s c ≡ w .laid .dues) (n : next d s c ≡ moved w (w .laid .to)) where
+    short : Short (w .inputs .prefix)
+    short = rw plain no-prefix-short
+
     abbrev bytes : List ℕ
     bytes = dueBytes h t (w .inputs) (w .laid .dues)
 
-    long : length bytes ≡ byteCount h t (w .laid .dues)
-    long = length-dueBytes h t (w .inputs) items groups
+    long : length bytes ≡ byteCount h t (w .inputs .prefix) (w .laid .dues)
+    long = length-dueBytes h t (w .inputs) items short groups
 
-    done : byteCount h t (w .laid .dues) ≤ length out → Whole c (record { answer = record { verdict = verdict.Accepted; count = byteCount h t (w .laid .dues); state = moved w (w .laid .to) }; out = splice out 0 bytes })
+    done : byteCount h t (w .inputs .prefix) (w .laid .dues) ≤ length out → Whole c (record { answer = record { verdict = verdict.Accepted; count = byteCount h t (w .inputs .prefix) (w .laid .dues); state = moved w (w .laid .to) }; out = splice out 0 bytes })
     done l = inl (record {
       accepted = refl;
       state = sym n;
-      lines = rw (r, e) (printed-part h t (w .inputs) items groups out);
-      count = rw e refl;
+      lines = rw (r, e) (printed-part h t (w .inputs) items short groups out);
+      count = rw (e, plain) refl;
       room = l;
       size = length-splice out 0 bytes (omega (arith, long));
       rest = rw (← long) (rw (zero-add (length bytes)) at (drop-splice out 0 bytes (omega arith)));
@@ -79,9 +84,9 @@ module _ (d : List ℕ) (s : State) (out : List ℕ) where
         by-test (w .ok)
         (λ o. by-test (pastLast (w .laid))
         (λ p. rw (o, p) (refused c verdict.Pages (omega arith) (omega arith)))
-        (λ p. by-test (tooShort h t (length out) (w .laid))
+        (λ p. by-test (tooShort h t (w .inputs .prefix) (length out) (w .laid))
         (λ q. rw (o, p, q) (refused c verdict.Room (omega arith) (omega arith)))
-        (λ q. rw (o, p, q) (done (ltb-false (length out) (byteCount h t (w .laid .dues)) q)))))
+        (λ q. rw (o, p, q) (done (ltb-false (length out) (byteCount h t (w .inputs .prefix) (w .laid .dues)) q)))))
         (λ o. rw o (refused c verdict.Sum (omega arith) (omega arith)))
 
   row-works : checked d ≡ Accepted → (i : ℕ) (row : List ℕ) → length row ≡ h .reclen → Whole (generate i row) (settled h t s (rowWork h t (literals d) s i row) out)
@@ -90,12 +95,12 @@ module _ (d : List ℕ) (s : State) (out : List ℕ) where
       let w = rowWork h t (literals d) s i row in
       let items = accepted d a .itemsIn in
       by-test (eqb (s .phase) started)
-      (λ e. settles (generate i row) w (rw e items) (rw e (in-layout h t _ _ _ _)) refl refl refl)
-      (λ e. settles (generate i row) w (rw e items) (rw e (in-layout h t _ _ _ _)) refl refl refl)
+      (λ e. settles (generate i row) w (rw e items) (rw e refl) (rw e (in-layout h t _ _)) refl refl refl)
+      (λ e. settles (generate i row) w (rw e items) (rw e refl) (rw e (in-layout h t _ _)) refl refl refl)
 
   last-works : checked d ≡ Accepted → eqb (s .phase) started ≡ false → Whole terminate (settled h t s (lastWork h t (literals d) s) out)
   unfolding lastWork
-  last-works a e = settles terminate (lastWork h t (literals d) s) (accepted d a .itemsIn) (in-layout h t _ _ _ _) refl (rw e refl) (rw e refl)
+  last-works a e = settles terminate (lastWork h t (literals d) s) (accepted d a .itemsIn) refl (in-layout h t _ _) refl (rw e refl) (rw e refl)
 
   pub whole : (c : Call) → Whole c (answer d s c out)
   whole = each-call d s out Whole (record { no = refused; silent = silent; row = row-works; last = last-works })

@@ -25,20 +25,20 @@ use Rattle.book.specs.Book.{Call}
 use Rattle.book.specs.Demand.{answer}
 use Rattle.demands.proofs.Branches.{each-call}
 
-pub record Sized (s : State) : Type 0 where
+pub record Lengths (s : State) : Type 0 where
   pub flags : length (s .flags) ≡ 8
   pub kept : length (s .kept) ≡ 256
 
-pub fresh-sized : (phase : ℕ) → Sized (freshAt phase)
+pub fresh-sized : (phase : ℕ) → Lengths (freshAt phase)
 fresh-sized phase = record { flags = length-replicate 8 false; kept = length-replicate {A = ℕ} 256 0 }
 
-module _ (d : List ℕ) (s : State) (out : List ℕ) (z : Sized s) where
-  settled-sized : (h : Head) (t : List ℕ) (w : Work) → length (w .flags) ≡ 8 → length (w .kept) ≡ 256 → Sized (settled h t s w out .answer .state)
+module _ (d : List ℕ) (s : State) (out : List ℕ) (z : Lengths s) where
+  settled-sized : (h : Head) (t : List ℕ) (w : Work) → length (w .flags) ≡ 8 → length (w .kept) ≡ 256 → Lengths (settled h t s w out .answer .state)
   unfolding settled outcome
   settled-sized h t w f k =
       by-test (w .ok)
       (λ o. by-test (pastLast (w .laid)) (λ p. rw (o, p) z)
-      (λ p. by-test (tooShort h t (length out) (w .laid)) (λ q. rw (o, p, q) z) (λ q. rw (o, p, q) (record { flags = f; kept = k }))))
+      (λ p. by-test (tooShort h t (w .inputs .prefix) (length out) (w .laid)) (λ q. rw (o, p, q) z) (λ q. rw (o, p, q) (record { flags = f; kept = k }))))
       (λ o. rw o z)
 
   module _ (h : Head) (t lits : List ℕ) (i : ℕ) (row : List ℕ) where
@@ -61,13 +61,13 @@ module _ (d : List ℕ) (s : State) (out : List ℕ) (z : Sized s) where
         by-test (eqb (s .phase) started) (λ e. rw e (length-padded row l))
         (λ e. rw e (by-cond (λ (k : List ℕ). length k ≡ 256) (breaks h _) (λ b. length-padded row l) (λ b. z .kept)))
 
-  last-sized : (h : Head) (t lits : List ℕ) → Sized (settled h t s (lastWork h t lits s) out .answer .state)
+  last-sized : (h : Head) (t lits : List ℕ) → Lengths (settled h t s (lastWork h t lits s) out .answer .state)
   unfolding lastWork
   last-sized h t lits = settled-sized h t (lastWork h t lits s) (z .flags) (z .kept)
 
-  pub sized : (c : Call) → Sized (answer d s c out .answer .state)
+  pub sized : (c : Call) → Lengths (answer d s c out .answer .state)
   sized =
-      each-call d s out (λ c r. Sized (r .answer .state))
+      each-call d s out (λ c r. Lengths (r .answer .state))
       (record {
         no = λ c v a b. z;
         silent = λ c phase e n. fresh-sized phase;

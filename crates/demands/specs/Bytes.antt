@@ -6,7 +6,8 @@ use mathlib.Core.Logic.{_⊎_}
 use lib.ListN.{length, getD, take, drop}
 use Rattle.tables.specs.Head.{headOf}
 use Rattle.tables.specs.Table.{table}
-use Rattle.pages.specs.Bytes.{dueBytes, byteCount}
+use Rattle.printed.specs.Printed.{noPrefix}
+use Rattle.call_text.specs.Bytes.{dueBytes, byteCount}
 use Rattle.pagination.specs.All.{All}
 use Rattle.state.specs.State.{freshAt}
 use Rattle.calls.specs.Result.{Result}
@@ -62,7 +63,7 @@ module _ (d : List ℕ) where
     pub accepted : numberIn l ≡ 0
     pub state : l .state ≡ bytesOf (next d (stateOf old) (u .call))
     pub lines : take (countIn l) (l .out) ≡ dueBytes (headOf d) (table d) (reads d (stateOf old) (u .call)) (work d (stateOf old) (u .call))
-    pub count : countIn l ≡ byteCount (headOf d) (table d) (work d (stateOf old) (u .call))
+    pub count : countIn l ≡ byteCount (headOf d) (table d) noPrefix (work d (stateOf old) (u .call))
     pub room : countIn l ≤ length (u .out)
     pub size : length (l .out) ≡ length (u .out)
     pub rest : drop (countIn l) (l .out) ≡ drop (countIn l) (u .out)

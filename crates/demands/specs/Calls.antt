@@ -9,7 +9,8 @@ use lib.ListN.{length, take, drop}
 use Rattle.tables.specs.Head.{headOf}
 use Rattle.tables.specs.Table.{table, literals}
 use Rattle.layout.specs.Layout.{Due}
-use Rattle.pages.specs.Bytes.{dueBytes, byteCount}
+use Rattle.printed.specs.Printed.{noPrefix}
+use Rattle.call_text.specs.Bytes.{dueBytes, byteCount}
 use Rattle.state.specs.State.{idle, started}
 use Rattle.state.specs.declared.State.{State}
 use Rattle.refusals.specs.Verdict.{number}
@@ -46,7 +47,7 @@ module _ (d : List ℕ) where
     pub accepted : number (r .answer .verdict) ≡ 0
     pub state : r .answer .state ≡ next s c
     pub lines : take (r .answer .count) (r .out) ≡ dueBytes (headOf d) (table d) (reads d s c) (work s c)
-    pub count : r .answer .count ≡ byteCount (headOf d) (table d) (work s c)
+    pub count : r .answer .count ≡ byteCount (headOf d) (table d) noPrefix (work s c)
     pub room : r .answer .count ≤ length out
     pub size : length (r .out) ≡ length out
     pub rest : drop (r .answer .count) (r .out) ≡ drop (r .answer .count) out
