@@ -22,18 +22,18 @@ use Rattle.items.specs.Items.{ruleD7}
 use Rattle.counters.specs.Counters.{ruleD8}
 use Rattle.description.specs.declared.Checked.{Checked}
 use Rattle.description.specs.declared.Checked.the-variants.{Accepted}
-use Rattle.description.specs.Check.{after, from3, from4, from5, from6, from7, from8, judged, checked}
+use Rattle.description.specs.Check.{orBroken, from3, from4, from5, from6, from7, from8, judged, checked}
 use Rattle.accepted.specs.Accepted as facts
 use Rattle.accepted.proofs.Index.{details-few}
 use Rattle.accepted.proofs.Page.{small, page-fits}
 use Rattle.accepted.proofs.Entries.{fields-in, controls-in, counters-in, items-in}
 
-rule-passed : (k : ℕ) (b : Bool) (rest : Checked) → after k (ruled b) rest ≡ Accepted → b ≡ true
+rule-passed : (k : ℕ) (b : Bool) (rest : Checked) → orBroken k (ruled b) rest ≡ Accepted → b ≡ true
 unfolding ruled
 rule-passed k true rest e = refl
 rule-passed k false rest e = let z : _≡_ {A = ℕ} 0 1 = cc in absurd (omega arith)
 
-rest-passed : (k : ℕ) (b : Bool) (rest : Checked) → after k (ruled b) rest ≡ Accepted → rest ≡ Accepted
+rest-passed : (k : ℕ) (b : Bool) (rest : Checked) → orBroken k (ruled b) rest ≡ Accepted → rest ≡ Accepted
 unfolding ruled
 rest-passed k true rest e = e
 rest-passed k false rest e = let z : _≡_ {A = ℕ} 0 1 = cc in absurd (omega arith)

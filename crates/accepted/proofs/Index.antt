@@ -14,7 +14,7 @@ use Rattle.tables.specs.Table.{typeOf, lineCount}
 use Rattle.lookup.specs.Find.{isDetail, theDetail, detailBit, details}
 use Rattle.groups.specs.Groups.{groupOk, ruleD5}
 use Rattle.lines.specs.Lines.{firstOk, later, laterOk}
-use Rattle.fits.specs.Fits.{linesOk, fits, ruleD6}
+use Rattle.fits.specs.Fits.{linesOk, groupFits, ruleD6}
 
 -- ---- D5
 module _ (h : Head) (t : List ℕ) (e : ruleD5 h t ≡ true) where
@@ -46,7 +46,7 @@ module _ (h : Head) (t : List ℕ) (e : ruleD6 h t ≡ true) where
     pub few : leb (lineCount h t i) 16 ≡ true
     pub first : firstOk h t i ≡ true
     pub rest : allBelow (later h t i) (laterOk h t i) ≡ true
-    pub fit : fits h t i ≡ true
+    pub fit : groupFits h t i ≡ true
 
   pub lined : (i : ℕ) → i < h .groups → 0 < lineCount h t i → Lined i
   unfolding ruleD6 linesOk

@@ -17,7 +17,7 @@ use Rattle.fields.specs.Page.{ruleD2}
 use Rattle.groups.specs.Groups.{numbersOk, ruleD5}
 use Rattle.lines.specs.Lines.{kindOf, firstInt, later, step, span, stepOk, laterOk, firstOk}
 use Rattle.fits.specs.Starts.{startFrom, present, lastFrom, aboveHead, headEnd, footEnd}
-use Rattle.fits.specs.Fits.{bodyFits, headFits, footFits, fits, ruleD6}
+use Rattle.fits.specs.Fits.{bodyFits, headFits, footFits, groupFits, ruleD6}
 use Rattle.place.specs.declared.Frame.{Frame}
 use Rattle.place.specs.Rules.{FitsPart, Described, NextIn}
 use Rattle.shape.specs.Shape.{asFirst, asNext, lowOf, bodyOf, nextOf, headLine, frameOf}
@@ -151,7 +151,7 @@ module _ (h : Head) (t : List ℕ) (e2 : ruleD2 h ≡ true) (e5 : ruleD5 h t ≡
   -- ---- a group's fit, by its type
   fit-of : (i k : ℕ) → typeOf h t i ≡ k → present h t i ≡ true →
       cond (eqb k 0) (headFits h t (aboveHead h) i) (cond (eqb k 1) (headFits h t (headEnd h t) i) (cond (leb k 3) (bodyFits h t (h .ld) i) (cond (eqb k 4) (bodyFits h t (h .ft) i) (cond (eqb k 5) (footFits h t (h .ft) i) (footFits h t (footEnd h t) i))))) ≡ true
-  unfolding fits
+  unfolding groupFits
   fit-of i k q p = rw (← q) (tested i p .fit)
 
   -- ---- headings

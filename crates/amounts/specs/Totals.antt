@@ -5,15 +5,16 @@ use mathlib.Core.List.{List}
 use lib.Dec.{ltb}
 use lib.IntN.{ℤ}
 use Rattle.counts.specs.Below.{foldBelow}
+use Rattle.tables.specs.Kinds.{typeCF}
 use Rattle.tables.specs.declared.Head.{Head}
 use Rattle.lookup.specs.Find.{theGroup}
 use Rattle.sums.specs.declared.Totals.{Totals}
 use Rattle.sums.specs.Subtotal.{subtotal}
 use Rattle.footing.specs.Footing.{footing}
 
--- the footing of a level, where it has one (CF is type 4)
+-- the footing of a level, where it has one
 unfoldable pub footingAt : Head → List ℕ → ℕ → ℕ → Totals → Totals
-footingAt h t b level acc = cond (ltb (theGroup h t 4 level) (h .groups)) (footing h t (theGroup h t 4 level) b acc) acc
+footingAt h t b level acc = cond (ltb (theGroup h t typeCF level) (h .groups)) (footing h t (theGroup h t typeCF level) b acc) acc
 
 -- "On a break at level b: CFs from junior up to b"
 unfoldable pub footings : Head → List ℕ → ℕ → Totals → Totals

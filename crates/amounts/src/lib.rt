@@ -15,13 +15,13 @@ fn footing_at(
     b: usize,
     level: usize,
     ok: bool,
-    sums: &mut [i64; 32],
-    shown: &mut [i64; 32],
+    sums: &mut [i64; file::COUNTERS_MAX],
+    shown: &mut [i64; file::COUNTERS_MAX],
 ) -> bool
     requires { ⌜ CountersIn h (now t) × (sumsOk (now sums) ≡ true) ⌝ }
     ensures { λ r. ⌜ totals r (now (sums .exit)) (now (shown .exit)) ≡ footingAt h (now (t .entry)) b level (totals ok (now (sums .entry)) (now (shown .entry))) ⌝ }
 {
-    let g = lookup::find(t, h, 4, level);
+    let g = lookup::find(t, h, tables::CF, level);
     let n = tables::wide(h.groups);
     if g < n {
         return footing::footing(t, h, g, b, ok, sums, shown);
@@ -35,8 +35,8 @@ fn footings(
     h: Head,
     b: usize,
     ok: bool,
-    sums: &mut [i64; 32],
-    shown: &mut [i64; 32],
+    sums: &mut [i64; file::COUNTERS_MAX],
+    shown: &mut [i64; file::COUNTERS_MAX],
 ) -> bool
     requires { ⌜ (CountersIn h (now t) × (sumsOk (now sums) ≡ true)) × (b ≤ h .controls) ⌝ }
     ensures { λ r. ⌜ totals r (now (sums .exit)) (now (shown .exit)) ≡ footingsSpec h (now (t .entry)) b (totals ok (now (sums .entry)) (now (shown .entry))) ⌝ }
@@ -51,7 +51,12 @@ fn footings(
 }
 
 // The new sums, or the old ones where an addition was refused.
-fn old_if_refused(old: [i64; 32], ok: bool, sums: [i64; 32], shown: [i64; 32]) -> Totals
+fn old_if_refused(
+    old: [i64; file::COUNTERS_MAX],
+    ok: bool,
+    sums: [i64; file::COUNTERS_MAX],
+    shown: [i64; file::COUNTERS_MAX],
+) -> Totals
     ensures { λ s. ⌜ s ≡ oldIfRefused old (totals ok sums shown) ⌝ }
 {
     if ok {
@@ -70,7 +75,13 @@ fn old_if_refused(old: [i64; 32], ok: bool, sums: [i64; 32], shown: [i64; 32]) -
 }
 
 // The totals of the first GENERATE.
-pub fn totals_first(t: &[u16], h: Head, row: &[u8], d: usize, old: [i64; 32]) -> Totals
+pub fn totals_first(
+    t: &[u16],
+    h: Head,
+    row: &[u8],
+    d: usize,
+    old: [i64; file::COUNTERS_MAX],
+) -> Totals
     requires { ⌜ Adding h (now t) (now row) d (freshSpec old) ⌝ }
     ensures { λ r. ⌜ r ≡ totalsFirst h (now (t .entry)) (now (row .entry)) d old ⌝ }
 {
@@ -80,7 +91,14 @@ pub fn totals_first(t: &[u16], h: Head, row: &[u8], d: usize, old: [i64; 32]) ->
 }
 
 // The totals of a later GENERATE with a break at level `b`; none where that is the number of controls.
-pub fn totals_later(t: &[u16], h: Head, row: &[u8], d: usize, b: usize, old: [i64; 32]) -> Totals
+pub fn totals_later(
+    t: &[u16],
+    h: Head,
+    row: &[u8],
+    d: usize,
+    b: usize,
+    old: [i64; file::COUNTERS_MAX],
+) -> Totals
     requires { ⌜ Adding h (now t) (now row) d (freshSpec old) × (b ≤ h .controls) ⌝ }
     ensures { λ r. ⌜ r ≡ totalsLater h (now (t .entry)) (now (row .entry)) d b old ⌝ }
 {
@@ -92,7 +110,7 @@ pub fn totals_later(t: &[u16], h: Head, row: &[u8], d: usize, b: usize, old: [i6
 }
 
 // The totals of TERMINATE.
-pub fn totals_last(t: &[u16], h: Head, old: [i64; 32]) -> Totals
+pub fn totals_last(t: &[u16], h: Head, old: [i64; file::COUNTERS_MAX]) -> Totals
     requires { ⌜ CountersIn h (now t) × (sumsOk old ≡ true) ⌝ }
     ensures { λ r. ⌜ r ≡ totalsLast h (now (t .entry)) old ⌝ }
 {

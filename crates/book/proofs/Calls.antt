@@ -35,7 +35,7 @@ use Rattle.call_text.proofs.Bytes.{in-layout}
 use Rattle.printed.specs.Printed.{Short}
 use Rattle.printed.proofs.Laws.{no-prefix-short}
 use Rattle.pagination.specs.Rising.{rank}
-use Rattle.pagination.specs.Claims.{rankAt, Placed, Closed}
+use Rattle.pagination.specs.Claims.{rankAt, LaidRunning, LaidClosed}
 use Rattle.pagination.proofs.Groups.{sound-none}
 use Rattle.pagination.proofs.Calls.{DetailOk, first-placed, later-placed, last-placed, detail-is}
 use Rattle.state.specs.State.{idle, started, running}
@@ -142,7 +142,7 @@ module _ (d : List ℕ) (accepts : checked d ≡ Accepted) (A : facts.Accepted (
         unfolding firstWork
         laid1 = refl
 
-        placed1 : Placed h t (b .report) (placeOf s) (w1 .laid)
+        placed1 : LaidRunning h t (b .report) (placeOf s) (w1 .laid)
         placed1 = rw laid1 (first-placed h t (b .report) (A .pageFits) (theDetail h t i) (placeOf s) detail-ok (ap (λ (x : State). x .page) fresh) (ap (λ (x : State). x .line) fresh))
 
         same1 : w1 .laid ≡ dueFor h t (b .row) call (b .pos)
@@ -214,7 +214,7 @@ module _ (d : List ℕ) (accepts : checked d ≡ Accepted) (A : facts.Accepted (
         unfolding laterWork
         laid2 = refl
 
-        placed2 : Placed h t (b .report) (placeOf s) (w2 .laid)
+        placed2 : LaidRunning h t (b .report) (placeOf s) (w2 .laid)
         placed2 = rw laid2 (later-placed h t (b .report) (A .pageFits) level (theDetail h t i) (placeOf s) detail-ok (facts2 .spot))
 
         -- the book finds the break against its own row
@@ -322,7 +322,7 @@ module _ (d : List ℕ) (accepts : checked d ≡ Accepted) (A : facts.Accepted (
       unfolding lastWork
       laid3 = refl
 
-      closed3 : Closed h t (b .report) (placeOf s) (w3 .laid)
+      closed3 : LaidClosed h t (b .report) (placeOf s) (w3 .laid)
       closed3 = rw laid3 (last-placed h t (b .report) (A .pageFits) (placeOf s) (facts3 .spot))
 
       phase3 : w3 .phase ≡ 0

@@ -10,7 +10,7 @@ use Rattle.rows.specs.Breaks.{breakLevel}
 use Rattle.plan.specs.Plan.{firstPlan, laterPlan, lastPlan}
 use Rattle.layout.specs.declared.Pos.{Pos}
 use Rattle.layout.specs.Layout.{Due, Laid, layout, nothing}
-use Rattle.pagination.specs.Rising.{Spot, spotsOf}
+use Rattle.pagination.specs.Rising.{Position, spotsOf}
 
 -- what is asked: INITIATE, GENERATE of a record as detail d, TERMINATE
 pub data Call : Type 0 where
@@ -77,6 +77,6 @@ module _ (h : Head) (t : List ℕ) where
   duesOf r [] = []
   duesOf r (p ∷ ps) = cond (eqb (p .report) r) (p .dues) [] ++ duesOf r ps
 
-  unfoldable pub spotsIn : List Entry → List Spot
+  unfoldable pub spotsIn : List Entry → List Position
   spotsIn [] = []
   spotsIn (p ∷ ps) = spotsOf h t (p .report) (p .dues) ++ spotsIn ps

@@ -3,6 +3,8 @@ use Prim.Native.Nat.{ℕ, _+_, _≤_, _<_}
 use mathlib.Core.Path.{_≡_}
 use mathlib.Core.List.{List}
 use lib.ListN.{length}
+use Rattle.file.specs.Limits.{lineMax}
+use Rattle.tables.specs.Kinds.{sourceLiteral, sourceField, sourceSum}
 use Rattle.tables.specs.declared.Head.{Head}
 use Rattle.tables.specs.declared.Item.{Item}
 use Rattle.tables.specs.Table.{firstLine, lineCount, firstItem, itemCount, itemOf}
@@ -14,15 +16,15 @@ use Rattle.compose.specs.Items.{Inputs, applied}
 pub record ItemIn (h : Head) (x : Item) : Type 0 where
   pub column : 1 ≤ x .column
   pub inside : x .column + x .width ≤ h .width + 1
-  pub kind : x .kind ≤ 4
-  pub literal : x .kind ≡ 0 → x .index + x .width ≤ h .literals
-  pub field : x .kind ≡ 1 → x .index < h .fields
-  pub sum : x .kind ≡ 4 → x .index < h .counters
+  pub kind : x .kind ≤ sourceSum
+  pub literal : x .kind ≡ sourceLiteral → x .index + x .width ≤ h .literals
+  pub field : x .kind ≡ sourceField → x .index < h .fields
+  pub sum : x .kind ≡ sourceSum → x .index < h .counters
   pub decimals : x .decimals ≤ 4
 
 -- D2: "W 1 to 132"; D1: the literal bytes are there
 pub record Sized (h : Head) (lits : List ℕ) : Type 0 where
-  pub width : h .width ≤ 132
+  pub width : h .width ≤ lineMax
   pub literals : h .literals ≤ length lits
 
 -- of every item of line l
@@ -51,10 +53,10 @@ pub record Fits (x : Item) (text : List ℕ) : Type 0 where
 -- what an item shows can be read; the line's number is small enough to print as a signed one
 pub record ItemReady (t : List ℕ) (inp : Inputs) (v : View) (x : Item) (text : List ℕ) : Type 0 where
   pub fits : Fits x text
-  pub kind : x .kind ≤ 4
-  pub literal : x .kind ≡ 0 → x .index + x .width ≤ length (inp .lits)
-  pub field : x .kind ≡ 1 → x .index < 65536 → FieldFormed t (applied inp v) (x .index)
-  pub sum : x .kind ≡ 4 → x .index < length (inp .sums)
+  pub kind : x .kind ≤ sourceSum
+  pub literal : x .kind ≡ sourceLiteral → x .index + x .width ≤ length (inp .lits)
+  pub field : x .kind ≡ sourceField → x .index < 65536 → FieldFormed t (applied inp v) (x .index)
+  pub sum : x .kind ≡ sourceSum → x .index < length (inp .sums)
   pub number : v .line < 68719476736
 
 -- line l can be shown

@@ -7,6 +7,7 @@ use lib.IntN.{ℤ, pos}
 use lib.ListN.{getD, take, drop, replicate}
 use Rattle.number.specs.Value.{numberOf}
 use Rattle.figures.specs.Number.{numberField, alignLeft}
+use Rattle.tables.specs.Kinds.{kindNumber, sourceLiteral, sourceField, sourcePage, sourceLine}
 use Rattle.tables.specs.declared.Item.{Item}
 use Rattle.tables.specs.Table.{fieldKind}
 use Rattle.rows.specs.Fields.{fieldPart}
@@ -40,7 +41,7 @@ literalText lits x = take (x .width) (drop (x .index) lits)
 -- "Text is left-aligned, cut or padded. Numbers are right-aligned, ..": a field of a record
 unfoldable pub fieldText : List ℕ → List ℕ → Item → List ℕ
 fieldText t rec x =
-    cond (eqb (fieldKind t (x .index)) 1)
+    cond (eqb (fieldKind t (x .index)) kindNumber)
     (numberField (numberOf (fieldPart t rec (x .index))) (x .decimals) (x .width))
     (alignLeft (x .width) (fieldPart t rec (x .index)))
 
@@ -55,10 +56,10 @@ sumText sums x = numberField (getD sums (x .index) (pos 0)) (x .decimals) (x .wi
 -- by source kind: "0 literal, 1 field, 2 page counter, 3 line counter, 4 sum". "A line counter item shows its own line's number."
 unfoldable pub sourceText : List ℕ → Inputs → View → Item → List ℕ
 sourceText t inp v x =
-    cond (eqb (x .kind) 0) (literalText (inp .lits) x)
-    (cond (eqb (x .kind) 1) (fieldText t (applied inp v) x)
-    (cond (eqb (x .kind) 2) (counterText (v .page) x)
-    (cond (eqb (x .kind) 3) (counterText (v .line) x)
+    cond (eqb (x .kind) sourceLiteral) (literalText (inp .lits) x)
+    (cond (eqb (x .kind) sourceField) (fieldText t (applied inp v) x)
+    (cond (eqb (x .kind) sourcePage) (counterText (v .page) x)
+    (cond (eqb (x .kind) sourceLine) (counterText (v .line) x)
     (sumText (inp .sums) x))))
 
 -- "An item flagged indicate prints only the first time its detail prints after a control break; else blanks."

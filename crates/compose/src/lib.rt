@@ -82,7 +82,7 @@ fn put_field<'a>(
     let at = x.column as usize - 1;
     let part = rows::applies(t, kept, row, from_kept, i);
     let kind = tables::field_num(t, i, 0);
-    if kind == 1 {
+    if kind == tables::FIELD_NUMBER {
         figures::put_number(parse::number(part), x.decimals as usize, w, at, text);
     } else {
         figures::put_text(part, w, at, text);
@@ -168,13 +168,13 @@ fn line_text<'a>(
     sums: &[i64],
     v: View,
     l: usize,
-) -> [u8; 132]
+) -> [u8; file::LINE_MAX]
     requires { ⌜ LineReady h (now t) (inputs (now lits) (now kept) (now row) (now sums)) v l ⌝ }
     ensures { λ r. ⌜ r ≡ lineText h (now (t .entry)) (inputs (now (lits .entry)) (now (kept .entry)) (now (row .entry)) (now (sums .entry))) v l ⌝ }
 {
     let first = tables::line_num(t, h, l, 2);
     let n = tables::line_num(t, h, l, 3);
-    let mut text = [b' '; 132];
+    let mut text = [b' '; file::LINE_MAX];
     let mut m = 0;
     while m < n {
         let x = tables::item_of(t, h, first + m);

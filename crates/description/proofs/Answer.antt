@@ -22,12 +22,12 @@ use Rattle.items.specs.Items.{ruleD7}
 use Rattle.counters.specs.Counters.{ruleD8}
 use Rattle.description.specs.declared.Checked.{Checked}
 use Rattle.description.specs.declared.Checked.the-variants.{Accepted, Broken}
-use Rattle.description.specs.Check.{after, from3, from4, from5, from6, from7, from8, judged, checked}
+use Rattle.description.specs.Check.{orBroken, from3, from4, from5, from6, from7, from8, judged, checked}
 use Rattle.description.specs.Refusal.{number, extra, RuleIn, Answers}
 use Rattle.description.specs.Facts.{LiteralsIn}
 
 -- "first broken rule, 1 to 8"
-after-in : (n : ℕ) (b : Bool) (rest : Checked) → 1 ≤ n → n ≤ 8 → RuleIn rest → RuleIn (after n (ruled b) rest)
+after-in : (n : ℕ) (b : Bool) (rest : Checked) → 1 ≤ n → n ≤ 8 → RuleIn rest → RuleIn (orBroken n (ruled b) rest)
 unfolding ruled
 after-in n true rest l m s k e = s k e
 after-in n false rest l m s k e = let q : n ≡ k = cc in (omega arith, omega arith)

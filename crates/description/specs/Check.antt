@@ -19,31 +19,31 @@ use Rattle.description.specs.declared.Checked.{Checked}
 use Rattle.description.specs.declared.Checked.the-variants.{Accepted, Broken}
 
 -- rule k's answer: the answer of the rules after it where it is passed, else its number
-abbrev pub after : ℕ → Rule → Checked → Checked
-after k Passed rest = rest
-after k Fails rest = Broken (brokenBy k Fails)
+abbrev pub orBroken : ℕ → Rule → Checked → Checked
+orBroken k Passed rest = rest
+orBroken k Fails rest = Broken (brokenBy k Fails)
 
 unfoldable pub from8 : Head → List ℕ → Checked
-from8 h t = after 8 (ruled (ruleD8 h t)) Accepted
+from8 h t = orBroken 8 (ruled (ruleD8 h t)) Accepted
 
 unfoldable pub from7 : Head → List ℕ → List ℕ → Checked
-from7 h t lits = after 7 (ruled (ruleD7 h t lits)) (from8 h t)
+from7 h t lits = orBroken 7 (ruled (ruleD7 h t lits)) (from8 h t)
 
 unfoldable pub from6 : Head → List ℕ → List ℕ → Checked
-from6 h t lits = after 6 (ruled (ruleD6 h t)) (from7 h t lits)
+from6 h t lits = orBroken 6 (ruled (ruleD6 h t)) (from7 h t lits)
 
 unfoldable pub from5 : Head → List ℕ → List ℕ → Checked
-from5 h t lits = after 5 (ruled (ruleD5 h t)) (from6 h t lits)
+from5 h t lits = orBroken 5 (ruled (ruleD5 h t)) (from6 h t lits)
 
 unfoldable pub from4 : Head → List ℕ → List ℕ → Checked
-from4 h t lits = after 4 (ruled (ruleD4 h t)) (from5 h t lits)
+from4 h t lits = orBroken 4 (ruled (ruleD4 h t)) (from5 h t lits)
 
 unfoldable pub from3 : Head → List ℕ → List ℕ → Checked
-from3 h t lits = after 3 (ruled (ruleD3 h t)) (from4 h t lits)
+from3 h t lits = orBroken 3 (ruled (ruleD3 h t)) (from4 h t lits)
 
 unfoldable pub judged : Head → List ℕ → List ℕ → Checked
-judged h t lits = after 2 (ruled (ruleD2 h)) (from3 h t lits)
+judged h t lits = orBroken 2 (ruled (ruleD2 h)) (from3 h t lits)
 
 -- the answer of CHECK
 unfoldable pub checked : List ℕ → Checked
-checked d = after 1 (ruled (ruleD1 d)) (judged (headOf d) (table d) (literals d))
+checked d = orBroken 1 (ruled (ruleD1 d)) (judged (headOf d) (table d) (literals d))

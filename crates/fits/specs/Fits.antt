@@ -32,8 +32,8 @@ footFits h t above i =
     || not (eqb (kindOf h t i) lineNextPage) && ltb (h .ft) (startFrom h t above i) && ltb above (startFrom h t above i))
 
 -- "the group must fit", by its type, in their order; the last is RF (D5 refuses others)
-unfoldable pub fits : Head → List ℕ → ℕ → Bool
-fits h t i =
+unfoldable pub groupFits : Head → List ℕ → ℕ → Bool
+groupFits h t i =
     cond (eqb (typeOf h t i) typeRH) (headFits h t (aboveHead h) i)
     (cond (eqb (typeOf h t i) typePH) (headFits h t (headEnd h t) i)
     (cond (leb (typeOf h t i) typeDE) (bodyFits h t (h .ld) i)
@@ -43,7 +43,7 @@ fits h t i =
 -- "at most 16 lines a group"; a group without lines has no more to keep
 unfoldable pub linesOk : Head → List ℕ → ℕ → Bool
 linesOk h t i =
-    eqb (lineCount h t i) 0 || leb (lineCount h t i) 16 && firstOk h t i && allBelow (later h t i) (laterOk h t i) && fits h t i
+    eqb (lineCount h t i) 0 || leb (lineCount h t i) 16 && firstOk h t i && allBelow (later h t i) (laterOk h t i) && groupFits h t i
 
 -- ".. items shared out in line order"
 unfoldable pub ruleD6 : Head → List ℕ → Bool

@@ -6,7 +6,7 @@ ghost use Rattle.file.specs.Number.{Reads};
 ghost use Rattle.file.specs.Rule.{ruled};
 ghost use Rattle.lines.specs.Bounded.{Bounded};
 ghost use Rattle.fits.specs.Starts.{startFrom, present, lastFrom, aboveHead, headEnd, footEnd};
-ghost use Rattle.fits.specs.Fits.{bodyFits, headFits, footFits, fits, linesOk, ruleD6};
+ghost use Rattle.fits.specs.Fits.{bodyFits, headFits, footFits, groupFits, linesOk, ruleD6};
 use file::Rule;
 use tables::Head;
 
@@ -113,7 +113,7 @@ fn foot_fits(t: &[u16], h: Head, above: usize, i: usize) -> bool
 // The fit test of the group's type.
 fn fits_page(t: &[u16], h: Head, i: usize) -> bool
     requires { ⌜ i < 65536 ⌝ }
-    ensures { λ r. ⌜ r ≡ fits h (now (t .entry)) i ⌝ }
+    ensures { λ r. ⌜ r ≡ groupFits h (now (t .entry)) i ⌝ }
 {
     let kind = tables::group_num(t, h, i, 0);
     if kind == tables::RH {

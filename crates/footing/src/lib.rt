@@ -7,9 +7,6 @@ ghost use Rattle.sums.specs.Facts.{CountersIn};
 ghost use Rattle.footing.specs.Footing.{showCounter, resetCounter, stepOf, atOwn, eachOwn, footing as footingSpec};
 use tables::Head;
 
-// The control that is no field.
-const FINAL: usize = 65535;
-
 // The steps of a footing, each over the group's counters in order.
 pub enum Step {
     Crossfoot,
@@ -25,7 +22,12 @@ pub struct Stage {
     pub step: Step,
 }
 
-fn show_counter(k: usize, ok: bool, sums: &[i64; 32], shown: &mut [i64; 32])
+fn show_counter(
+    k: usize,
+    ok: bool,
+    sums: &[i64; file::COUNTERS_MAX],
+    shown: &mut [i64; file::COUNTERS_MAX],
+)
     requires { ⌜ k < 32 ⌝ }
     ensures { λ _. ⌜ totals ok (now (sums .entry)) (now (shown .exit)) ≡ showCounter k (totals ok (now (sums .entry)) (now (shown .entry))) ⌝ }
 {
@@ -33,13 +35,20 @@ fn show_counter(k: usize, ok: bool, sums: &[i64; 32], shown: &mut [i64; 32])
     shown[k] = x;
 }
 
-fn reset_counter(t: &[u16], h: Head, b: usize, k: usize, ok: bool, sums: &mut [i64; 32])
+fn reset_counter(
+    t: &[u16],
+    h: Head,
+    b: usize,
+    k: usize,
+    ok: bool,
+    sums: &mut [i64; file::COUNTERS_MAX],
+)
     requires { ⌜ k < 32 ⌝ }
     ensures { λ _. ⌜ Does (resetCounter h (now (t .entry)) b k) ok (now (sums .entry)) ok (now (sums .exit)) ⌝ }
 {
     let level = tables::counter_num(t, h, k, 1);
     let control = tables::control_num(t, h, level);
-    if (b <= level) & (control != FINAL) {
+    if (b <= level) & (control != tables::FINAL) {
         sums[k] = 0;
     }
 }
@@ -51,8 +60,8 @@ fn step_counter(
     s: Stage,
     k: usize,
     ok: bool,
-    sums: &mut [i64; 32],
-    shown: &mut [i64; 32],
+    sums: &mut [i64; file::COUNTERS_MAX],
+    shown: &mut [i64; file::COUNTERS_MAX],
 ) -> bool
     requires { ⌜ (CountersIn h (now t) × (sumsOk (now sums) ≡ true)) × ((k < h .counters) × (s .group < 65536)) ⌝ }
     ensures { λ r. ⌜ totals r (now (sums .exit)) (now (shown .exit)) ≡ stepOf h (now (t .entry)) (s .group) (s .level) (s .step) k (totals ok (now (sums .entry)) (now (shown .entry))) ⌝ }
@@ -79,8 +88,8 @@ fn own_counter(
     s: Stage,
     k: usize,
     ok: bool,
-    sums: &mut [i64; 32],
-    shown: &mut [i64; 32],
+    sums: &mut [i64; file::COUNTERS_MAX],
+    shown: &mut [i64; file::COUNTERS_MAX],
 ) -> bool
     requires { ⌜ (CountersIn h (now t) × (sumsOk (now sums) ≡ true)) × ((k < h .counters) × (s .group < 65536)) ⌝ }
     ensures { λ r. ⌜ totals r (now (sums .exit)) (now (shown .exit)) ≡ atOwn h (now (t .entry)) (s .group) (stepOf h (now (t .entry)) (s .group) (s .level) (s .step)) k (totals ok (now (sums .entry)) (now (shown .entry))) ⌝ }
@@ -98,8 +107,8 @@ fn each_own(
     h: Head,
     s: Stage,
     ok: bool,
-    sums: &mut [i64; 32],
-    shown: &mut [i64; 32],
+    sums: &mut [i64; file::COUNTERS_MAX],
+    shown: &mut [i64; file::COUNTERS_MAX],
 ) -> bool
     requires { ⌜ (CountersIn h (now t) × (sumsOk (now sums) ≡ true)) × (s .group < 65536) ⌝ }
     ensures { λ r. ⌜ totals r (now (sums .exit)) (now (shown .exit)) ≡ eachOwn h (now (t .entry)) (s .group) (stepOf h (now (t .entry)) (s .group) (s .level) (s .step)) (totals ok (now (sums .entry)) (now (shown .entry))) ⌝ }
@@ -122,8 +131,8 @@ fn step_of(
     b: usize,
     step: Step,
     ok: bool,
-    sums: &mut [i64; 32],
-    shown: &mut [i64; 32],
+    sums: &mut [i64; file::COUNTERS_MAX],
+    shown: &mut [i64; file::COUNTERS_MAX],
 ) -> bool
     requires { ⌜ (CountersIn h (now t) × (sumsOk (now sums) ≡ true)) × (g < 65536) ⌝ }
     ensures { λ r. ⌜ totals r (now (sums .exit)) (now (shown .exit)) ≡ eachOwn h (now (t .entry)) g (stepOf h (now (t .entry)) g b step) (totals ok (now (sums .entry)) (now (shown .entry))) ⌝ }
@@ -149,8 +158,8 @@ pub fn footing(
     g: usize,
     b: usize,
     ok: bool,
-    sums: &mut [i64; 32],
-    shown: &mut [i64; 32],
+    sums: &mut [i64; file::COUNTERS_MAX],
+    shown: &mut [i64; file::COUNTERS_MAX],
 ) -> bool
     requires { ⌜ (CountersIn h (now t) × (sumsOk (now sums) ≡ true)) × (g < 65536) ⌝ }
     ensures { λ r. ⌜ totals r (now (sums .exit)) (now (shown .exit)) ≡ footingSpec h (now (t .entry)) g b (totals ok (now (sums .entry)) (now (shown .entry))) ⌝ }

@@ -4,12 +4,13 @@ use mathlib.Core.Bool.{Bool, cond, _&&_, _||_}
 use mathlib.Core.List.{List}
 use lib.Dec.{leb, ltb, eqb}
 use Rattle.counts.specs.Below.{firstBelow}
+use Rattle.tables.specs.Kinds.{typeDE, kindNumber, sourceLiteral, sourceField, sourcePage, sourceLine, sourceSum}
 use Rattle.tables.specs.declared.Head.{Head}
 use Rattle.tables.specs.Table.{fieldKind, control, typeOf, itemWidth, itemKind, itemIndex, itemDecimals, itemFlag, counterGroup}
 
 -- DE is type 3
 abbrev pub inDetail : Head → List ℕ → ℕ → Bool
-inDetail h t g = eqb (typeOf h t g) 3
+inDetail h t g = eqb (typeOf h t g) typeDE
 
 -- some control has field f; FINAL, 65535, is no field
 abbrev pub hasField : Head → List ℕ → ℕ → ℕ → Bool
@@ -30,14 +31,14 @@ sumItemOk h t g k = ltb k (h .counters) && eqb (counterGroup h t k) g
 -- 4 sum"; "An unlisted kind or flag breaks its section's rule".
 unfoldable pub sourceOk : Head → List ℕ → ℕ → ℕ → Bool
 sourceOk h t g i =
-    cond (eqb (itemKind h t i) 0) (leb (itemIndex h t i + itemWidth h t i) (h .literals))
-    (cond (eqb (itemKind h t i) 1) (fieldItemOk h t g (itemIndex h t i))
-    (cond (eqb (itemKind h t i) 4) (sumItemOk h t g (itemIndex h t i))
-    (leb 2 (itemKind h t i) && leb (itemKind h t i) 3 && eqb (itemIndex h t i) 0)))
+    cond (eqb (itemKind h t i) sourceLiteral) (leb (itemIndex h t i + itemWidth h t i) (h .literals))
+    (cond (eqb (itemKind h t i) sourceField) (fieldItemOk h t g (itemIndex h t i))
+    (cond (eqb (itemKind h t i) sourceSum) (sumItemOk h t g (itemIndex h t i))
+    (leb sourcePage (itemKind h t i) && leb (itemKind h t i) sourceLine && eqb (itemIndex h t i) 0)))
 
 -- "Decimals 0 to 4 and below the width, 0 unless a number field or sum."
 abbrev pub showsNumber : Head → List ℕ → ℕ → Bool
-showsNumber h t i = eqb (itemKind h t i) 4 || eqb (itemKind h t i) 1 && eqb (fieldKind t (itemIndex h t i)) 1
+showsNumber h t i = eqb (itemKind h t i) sourceSum || eqb (itemKind h t i) sourceField && eqb (fieldKind t (itemIndex h t i)) kindNumber
 
 unfoldable pub decimalsOk : Head → List ℕ → ℕ → Bool
 decimalsOk h t i =

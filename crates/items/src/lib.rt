@@ -31,7 +31,7 @@ fn field_item_ok(t: &[u16], h: Head, g: usize, f: usize) -> bool
     ensures { λ r. ⌜ r ≡ fieldItemOk h (now (t .entry)) g f ⌝ }
 {
     let there = f < tables::wide(h.fields);
-    if tables::group_num(t, h, g, 0) == 3 {
+    if tables::group_num(t, h, g, 0) == tables::DE {
         return there;
     }
     of_control(t, h, f) & there
@@ -46,10 +46,11 @@ fn source_ok(t: &[u16], h: Head, g: usize, i: usize, x: Item) -> bool
     let kind = tables::wide(x.kind);
     let index = tables::wide(x.index);
     match kind {
-        0 => index + width <= tables::wide(h.literals),
-        1 => field_item_ok(t, h, g, index),
-        4 => (index < tables::wide(h.counters)) & (tables::counter_num(t, h, index, 0) == g),
-        _ => (2 <= kind) & (kind <= 3) & (index == 0),
+        tables::SOURCE_LITERAL => index + width <= tables::wide(h.literals),
+        tables::SOURCE_FIELD => field_item_ok(t, h, g, index),
+        tables::SOURCE_SUM => (index < tables::wide(h.counters))
+            & (tables::counter_num(t, h, index, 0) == g),
+        _ => (tables::SOURCE_PAGE <= kind) & (kind <= tables::SOURCE_LINE) & (index == 0),
     }
 }
 
@@ -65,7 +66,8 @@ fn decimals_ok(t: &[u16], h: Head, i: usize, x: Item) -> bool
     }
     let kind = tables::wide(x.kind);
     let index = tables::wide(x.index);
-    let number = (kind == 4) | (kind == 1) & (tables::field_num(t, index, 0) == 1);
+    let number = (kind == tables::SOURCE_SUM)
+        | (kind == tables::SOURCE_FIELD) & (tables::field_num(t, index, 0) == tables::FIELD_NUMBER);
     (decimals <= 4) & (decimals < width) & number
 }
 
@@ -78,7 +80,7 @@ fn flag_ok(t: &[u16], h: Head, g: usize, i: usize, x: Item) -> bool
     if flag == 0 {
         return true;
     }
-    (flag == 1) & (tables::group_num(t, h, g, 0) == 3)
+    (flag == 1) & (tables::group_num(t, h, g, 0) == tables::DE)
 }
 
 // What an item shows, wherever it stands on the line.

@@ -22,18 +22,18 @@ use Rattle.plan.specs.declared.Plan.{Plan}
 use Rattle.plan.specs.Plan.{turns}
 use Rattle.layout.specs.declared.Pos.{Pos}
 use Rattle.layout.specs.declared.Placed.{Placed}
-use Rattle.layout.specs.Layout.{Due, pageChange, pageChanges, placedLines, placed, placeGroup, after, placeAll, opened, closed, layout}
+use Rattle.layout.specs.Layout.{Due, pageChange, pageChanges, placedLines, placed, placeGroup, andThen, placeAll, opened, closed, layout}
 
 module _ (h : Head) (t : List ℕ) where
   -- turns one after the other
-  pub place-append : (ds es : List Turn) (s : Pos) → placeAll h t (ds ++ es) s ≡ after (placeAll h t ds s) (placeAll h t es (placeAll h t ds s .to))
+  pub place-append : (ds es : List Turn) (s : Pos) → placeAll h t (ds ++ es) s ≡ andThen (placeAll h t ds s) (placeAll h t es (placeAll h t ds s .to))
   unfolding placeAll
   place-append [] es s = refl
   place-append (d ∷ ds) es s =
       rw (place-append ds es (placeGroup h t d s .to))
       (ap (λ (us : List Due). record { dues = us; to = placeAll h t es (placeAll h t ds (placeGroup h t d s .to) .to) .to }) (sym (append-assoc (placeGroup h t d s .dues) _ _)))
 
-  pub place-step : (ds es : List Turn) (d : Turn) (s : Pos) → ds ≡ d ∷ es → placeAll h t ds s ≡ after (placeGroup h t d s) (placeAll h t es (placeGroup h t d s .to))
+  pub place-step : (ds es : List Turn) (d : Turn) (s : Pos) → ds ≡ d ∷ es → placeAll h t ds s ≡ andThen (placeGroup h t d s) (placeAll h t es (placeGroup h t d s .to))
   unfolding placeAll
   place-step ds es d s e = rw e refl
 

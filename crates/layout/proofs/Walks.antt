@@ -12,7 +12,7 @@ use Rattle.plan.specs.declared.Plan.{Plan}
 use Rattle.plan.specs.Plan.{turns, turnCount, turnAt}
 use Rattle.plan.proofs.Turns.{length-turns, turns-step, turns-end, turn-group}
 use Rattle.layout.specs.declared.Pos.{Pos}
-use Rattle.layout.specs.Layout.{Laid, placeGroup, after, placeAll, opening, opened}
+use Rattle.layout.specs.Layout.{Laid, placeGroup, andThen, placeAll, opening, opened}
 use Rattle.layout.specs.Facts.{Called, Ready}
 use Rattle.layout.proofs.Steps.{place-step, place-end, place-page, group-near}
 
@@ -21,7 +21,7 @@ module _ (h : Head) (t : List ℕ) (p : Plan) where
   abbrev pub ahead : ℕ → Pos → Laid
   ahead k s = placeAll h t (drop k (turns h t p)) s
 
-  pub ahead-step : (k : ℕ) (s : Pos) (d : Turn) → k < turnCount p → d ≡ turnAt h t p k → ahead k s ≡ after (placeGroup h t d s) (ahead (k + 1) (placeGroup h t d s .to))
+  pub ahead-step : (k : ℕ) (s : Pos) (d : Turn) → k < turnCount p → d ≡ turnAt h t p k → ahead k s ≡ andThen (placeGroup h t d s) (ahead (k + 1) (placeGroup h t d s .to))
   ahead-step k s d l e = place-step h t _ _ d s (rw e (turns-step h t p k l))
 
   pub ahead-end : (k : ℕ) (s : Pos) → turnCount p ≤ k → ahead k s ≡ record { dues = []; to = s }

@@ -3,6 +3,7 @@ use Prim.Native.Nat.{ℕ, zero, suc, _+_}
 use mathlib.Core.Bool.{Bool, true, false, cond}
 use mathlib.Core.List.{List, [], _∷_, _++_}
 use lib.Dec.{eqb}
+use Rattle.tables.specs.Kinds.{typeRH, typePH, typePF, typeRF, lineNextPage}
 use Rattle.tables.specs.declared.Head.{Head}
 use Rattle.lookup.specs.Find.{theGroup}
 use Rattle.lines.specs.Lines.{kindOf, span}
@@ -36,16 +37,16 @@ dueOf h t g fromKept page at turned =
     cond (present h t g) (record { group = g; fromKept = fromKept; page = page; at = at; turned = turned } ∷ []) []
 
 abbrev pub reportHeading : Head → List ℕ → ℕ
-reportHeading h t = theGroup h t 0 0
+reportHeading h t = theGroup h t typeRH 0
 
 abbrev pub pageHeading : Head → List ℕ → ℕ
-pageHeading h t = theGroup h t 1 0
+pageHeading h t = theGroup h t typePH 0
 
 abbrev pub pageFooting : Head → List ℕ → ℕ
-pageFooting h t = theGroup h t 5 0
+pageFooting h t = theGroup h t typePF 0
 
 abbrev pub reportFooting : Head → List ℕ → ℕ
-reportFooting h t = theGroup h t 6 0
+reportFooting h t = theGroup h t typeRF 0
 
 -- "A page change prints PF, adds 1 to page, .. prints PH."; "A PH or PF printed for a group reads as that group does."
 unfoldable pub pageChange : Head → List ℕ → Bool → ℕ → List Due
@@ -89,12 +90,12 @@ placeGroup h t d s = record {
   to = placed h t d s .to;
 }
 
-abbrev pub after : Laid → Laid → Laid
-after a b = record { dues = a .dues ++ b .dues; to = b .to }
+abbrev pub andThen : Laid → Laid → Laid
+andThen a b = record { dues = a .dues ++ b .dues; to = b .to }
 
 unfoldable pub placeAll : Head → List ℕ → List Turn → Pos → Laid
 placeAll h t [] s = record { dues = []; to = s }
-placeAll h t (d ∷ ds) s = after (placeGroup h t d s) (placeAll h t ds (placeGroup h t d s .to))
+placeAll h t (d ∷ ds) s = andThen (placeGroup h t d s) (placeAll h t ds (placeGroup h t d s .to))
 
 -- a heading or footing at a line: "After any group prints, line is its last line"
 abbrev pub lineAfter : Head → List ℕ → ℕ → ℕ → ℕ → ℕ
@@ -118,7 +119,7 @@ opening h t = record {
 
 -- "RF on next page: after PF, page rises by 1, line is 0, seen clears, no heading prints."
 abbrev pub ownPage : Head → List ℕ → Bool
-ownPage h t = cond (present h t (reportFooting h t)) (eqb (kindOf h t (reportFooting h t)) 1) false
+ownPage h t = cond (present h t (reportFooting h t)) (eqb (kindOf h t (reportFooting h t)) lineNextPage) false
 
 abbrev pub pfAt : Head → List ℕ → ℕ
 pfAt h t = startFrom h t (h .ft) (pageFooting h t)
@@ -169,4 +170,4 @@ unfoldable pub layout : Head → List ℕ → Plan → Pos → Laid
 layout h t p s =
     let a = opened h t p s in
     let b = placeAll h t (turns h t p) (a .to) in
-    after a (after b (closed h t p (b .to)))
+    andThen a (andThen b (closed h t p (b .to)))

@@ -44,35 +44,35 @@ fn start_of(t: &[u16], h: Head, above: usize, kind: usize) -> Start
 pub fn report_heading(t: &[u16], h: Head) -> Start
     ensures { λ r. ⌜ Starts h (now (t .entry)) (aboveHead h) 0 r ⌝ }
 {
-    start_of(t, h, fits::above_head(h), 0)
+    start_of(t, h, fits::above_head(h), tables::RH)
 }
 
 // PH on the first page, below RH.
 pub fn first_page_heading(t: &[u16], h: Head) -> Start
     ensures { λ r. ⌜ Starts h (now (t .entry)) (headEnd h (now (t .entry))) 1 r ⌝ }
 {
-    start_of(t, h, fits::head_end(t, h), 1)
+    start_of(t, h, fits::head_end(t, h), tables::PH)
 }
 
 // PH on a later page.
 pub fn page_heading(t: &[u16], h: Head) -> Start
     ensures { λ r. ⌜ Starts h (now (t .entry)) (aboveHead h) 1 r ⌝ }
 {
-    start_of(t, h, fits::above_head(h), 1)
+    start_of(t, h, fits::above_head(h), tables::PH)
 }
 
 // PF.
 pub fn page_footing(t: &[u16], h: Head) -> Start
     ensures { λ r. ⌜ Starts h (now (t .entry)) (h .ft) 5 r ⌝ }
 {
-    start_of(t, h, tables::wide(h.ft), 5)
+    start_of(t, h, tables::wide(h.ft), tables::PF)
 }
 
 // RF, below PF where it has no page of its own.
 pub fn report_footing(t: &[u16], h: Head) -> Start
     ensures { λ r. ⌜ Starts h (now (t .entry)) (footEnd h (now (t .entry))) 6 r ⌝ }
 {
-    start_of(t, h, fits::foot_end(t, h), 6)
+    start_of(t, h, fits::foot_end(t, h), tables::RF)
 }
 
 // The line after a heading or footing: its last one, or `line` where it has none.
@@ -157,9 +157,9 @@ pub fn place_group(t: &[u16], h: Head, d: Turn, s: Pos) -> Placed
 fn own_page(t: &[u16], h: Head) -> bool
     ensures { λ r. ⌜ r ≡ ownPage h (now (t .entry)) ⌝ }
 {
-    let rf = lookup::find(t, h, 6, 0);
+    let rf = lookup::find(t, h, tables::RF, 0);
     if fits::present_of(t, h, rf) {
-        lines::first_num(t, h, rf, 0) == 1
+        lines::first_num(t, h, rf, 0) == tables::LINE_NEXT_PAGE
     } else {
         false
     }

@@ -14,7 +14,7 @@ use Rattle.fields.specs.Fields.{fieldOk, ruleD3}
 use Rattle.fields.specs.Controls.{controlOk, ruleD4, differs}
 use Rattle.groups.specs.Groups.{numbersOk, alone, ruleD5}
 use Rattle.lines.specs.Lines.{span, stepOk, firstOk}
-use Rattle.fits.specs.Fits.{bodyFits, fits, linesOk, ruleD6}
+use Rattle.fits.specs.Fits.{bodyFits, groupFits, linesOk, ruleD6}
 use Rattle.items.specs.Items.{lineItemsOk, groupItemsOk, ruleD7}
 use Rattle.counters.specs.Counters.{ruleD8}
 use Rattle.description.specs.declared.Checked.the-variants.{Accepted}
@@ -29,7 +29,7 @@ use Rattle.marked.specs.Described.{sections, description}
 use Rattle.marked.specs.Marked.{cases, given, wanted}
 
 pub accepts : checked description ≡ Accepted
-unfolding description allBelow sumBelow firstBelow listBelow num ruled ruleD1 table literals theGroup details sharedOut ruleD2 fieldOk ruleD3 differs controlOk ruleD4 numbersOk alone ruleD5 span stepOk firstOk bodyFits fits linesOk ruleD6 lineItemsOk groupItemsOk ruleD7 ruleD8 from8 from7 from6 from5 from4 from3 judged checked
+unfolding description allBelow sumBelow firstBelow listBelow num ruled ruleD1 table literals theGroup details sharedOut ruleD2 fieldOk ruleD3 differs controlOk ruleD4 numbersOk alone ruleD5 span stepOk firstOk bodyFits groupFits linesOk ruleD6 lineItemsOk groupItemsOk ruleD7 ruleD8 from8 from7 from6 from5 from4 from3 judged checked
 accepts = refl
 
 -- the table read from the bytes once, and not anew for each number of it

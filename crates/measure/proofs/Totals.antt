@@ -15,7 +15,7 @@ use Rattle.plan.specs.declared.Plan.{Plan}
 use Rattle.plan.specs.Plan.{turns}
 use Rattle.layout.specs.declared.Pos.{Pos}
 use Rattle.layout.specs.declared.Placed.{Placed}
-use Rattle.layout.specs.Layout.{Due, Laid, dueOf, pageChange, pageChanges, placed, placeGroup, after, placeAll, opening, closing, nothing, opened, closed, layout}
+use Rattle.layout.specs.Layout.{Due, Laid, dueOf, pageChange, pageChanges, placed, placeGroup, andThen, placeAll, opening, closing, nothing, opened, closed, layout}
 use Rattle.layout.specs.Lines.{lineTotal}
 use Rattle.measure.specs.declared.Measured.{Measured}
 use Rattle.measure.specs.Measure.{measured, added, linesDue, pairLines}
@@ -54,13 +54,13 @@ module _ (h : Head) (t : List ℕ) where
   total-closing s = simp (total-append, total-due)
 
   -- what is measured behind a place, in two parts
-  pub added-after : (m : Measured) (a b : Laid) → added h t m (after a b) ≡ added h t (added h t m a) b
+  pub added-after : (m : Measured) (a b : Laid) → added h t m (andThen a b) ≡ added h t (added h t m a) b
   added-after m a b =
       let e : m .lines + lineTotal h t (a .dues ++ b .dues) ≡ m .lines + lineTotal h t (a .dues) + lineTotal h t (b .dues) =
       omega (arith, total-append (a .dues) (b .dues)) in
       ap (λ (n : ℕ). record { lines = n; to = b .to }) e
 
-  pub measured-after : (a b : Laid) → measured h t (after a b) ≡ added h t (measured h t a) b
+  pub measured-after : (a b : Laid) → measured h t (andThen a b) ≡ added h t (measured h t a) b
   measured-after a b = ap (λ (n : ℕ). record { lines = n; to = b .to }) (total-append (a .dues) (b .dues))
 
   -- from what the callees ensure to the definitions
@@ -87,4 +87,4 @@ module _ (h : Head) (t : List ℕ) where
       let x = opened h t p s in
       let y = placeAll h t (turns h t p) (x .to) in
       let z = closed h t p (y .to) in
-      rw (er, eb, ea) (sym (measured-after x (after y z) ∙ added-after (measured h t x) y z))
+      rw (er, eb, ea) (sym (measured-after x (andThen y z) ∙ added-after (measured h t x) y z))

@@ -45,7 +45,7 @@ fn group_lines(t: &[u16], h: Head, g: usize, changes: u16) -> usize
     if changes == 0 {
         return own;
     }
-    let change = pair_lines(t, h, 5, 1);
+    let change = pair_lines(t, h, tables::PF, tables::PH);
     changes as usize * change + own
 }
 
@@ -86,7 +86,7 @@ fn measure_opening(t: &[u16], h: Head, p: Plan, s: Pos) -> Measured
     ensures { λ r. ⌜ Counted (measured h (now (t .entry)) (opened h (now (t .entry)) p s)) 131072 r ⌝ }
 {
     if p.opens {
-        let lines = pair_lines(t, h, 0, 1);
+        let lines = pair_lines(t, h, tables::RH, tables::PH);
         let to = layout::after_opening(t, h);
         return Measured { lines, to };
     }
@@ -100,7 +100,7 @@ fn measure_closing(t: &[u16], h: Head, p: Plan, m: Measured) -> Measured
 {
     if p.closes {
         let from = m.to;
-        let lines = pair_lines(t, h, 5, 6);
+        let lines = pair_lines(t, h, tables::PF, tables::RF);
         let to = layout::after_closing(t, h, from);
         return Measured {
             lines: m.lines + lines,

@@ -20,12 +20,12 @@ use Rattle.shape.specs.Shape.{frameOf}
 use Rattle.plan.specs.declared.Plan.{Plan}
 use Rattle.plan.specs.Plan.{detail, footings, headings, turns, firstPlan, laterPlan, lastPlan}
 use Rattle.layout.specs.declared.Pos.{Pos}
-use Rattle.layout.specs.Layout.{dueOf, reportHeading, pageHeading, pageFooting, reportFooting, lineAfter, rhAt, phAt, pfAt, rfAt, opening, ownPage, closing, after, placeAll, nothing, layout}
+use Rattle.layout.specs.Layout.{dueOf, reportHeading, pageHeading, pageFooting, reportFooting, lineAfter, rhAt, phAt, pfAt, rfAt, opening, ownPage, closing, andThen, placeAll, nothing, layout}
 use Rattle.pagination.specs.All.{All}
 use Rattle.pagination.specs.Rising.{rank}
 use Rattle.pagination.specs.Parts.{partFrom, partTo}
 use Rattle.pagination.specs.Facts.{PageFits}
-use Rattle.pagination.specs.Claims.{Sound, rankAt, Placed, Closed}
+use Rattle.pagination.specs.Claims.{Sound, rankAt, LaidRunning, LaidClosed}
 use Rattle.pagination.proofs.Climbs.{all-append}
 use Rattle.pagination.proofs.Groups.{sound-none, sound-append, heading-sound, type-is}
 use Rattle.pagination.proofs.Turns.{paged-after, opening-paged, own-closing, below-closing}
@@ -80,7 +80,7 @@ module _ (h : Head) (t : List ℕ) (r : ℕ) (fits : PageFits h t) where
   unfolding headEnd lastFrom
   head-end = refl
 
-  pub opening-placed : (s : Pos) → s .page ≡ 1 → s .spot .line ≡ 0 → Placed h t r s (opening h t)
+  pub opening-placed : (s : Pos) → s .page ≡ 1 → s .spot .line ≡ 0 → LaidRunning h t r s (opening h t)
   unfolding opening frameOf
   opening-placed s e1 e2 =
       let rh = reportHeading h t in
@@ -155,7 +155,7 @@ module _ (h : Head) (t : List ℕ) (r : ℕ) (fits : PageFits h t) where
     rf-line : (e : ℕ) → e ≤ h .page → lineAfter h t (reportFooting h t) (rfAt h t) e ≤ h .page
     rf-line e l = after-le (reportFooting h t) (rfAt h t) e (h .page) (λ p. fits .rfEnds p) l
 
-    closing-own : ownPage h t ≡ true → Closed h t r s (closing h t s)
+    closing-own : ownPage h t ≡ true → LaidClosed h t r s (closing h t s)
     unfolding closing
     closing-own e =
         rw e
@@ -168,7 +168,7 @@ module _ (h : Head) (t : List ℕ) (r : ℕ) (fits : PageFits h t) where
           pages = omega arith;
         })
 
-    closing-below : ownPage h t ≡ false → Closed h t r s (closing h t s)
+    closing-below : ownPage h t ≡ false → LaidClosed h t r s (closing h t s)
     unfolding closing
     closing-below e =
         rw e
@@ -181,7 +181,7 @@ module _ (h : Head) (t : List ℕ) (r : ℕ) (fits : PageFits h t) where
           pages = omega arith;
         })
 
-    pub closing-placed : Closed h t r s (closing h t s)
+    pub closing-placed : LaidClosed h t r s (closing h t s)
     closing-placed = by-test (ownPage h t) closing-own closing-below
 
   -- ---- the calls
@@ -189,20 +189,20 @@ module _ (h : Head) (t : List ℕ) (r : ℕ) (fits : PageFits h t) where
   no-detail : DetailOk (h .groups)
   no-detail p = let z : h .groups < h .groups = ltb-true _ _ (and-l (ltb (h .groups) (h .groups)) (ltb 0 (lineCount h t (h .groups))) p) in absurd (omega arith)
 
-  body : (p : Plan) (s : Pos) → DetailOk (p .detail) → Running (frameOf h t) (s .spot) → Placed h t r s (after (placeAll h t (turns h t p) s) (nothing (placeAll h t (turns h t p) s .to)))
+  body : (p : Plan) (s : Pos) → DetailOk (p .detail) → Running (frameOf h t) (s .spot) → LaidRunning h t r s (andThen (placeAll h t (turns h t p) s) (nothing (placeAll h t (turns h t p) s .to)))
   body p s k run =
       let v = all-placed h t r fits (turns h t p) s (turns-ok p k) run in
       placed-after h t r fits s (placeAll h t (turns h t p) s) (nothing (placeAll h t (turns h t p) s .to)) v (placed-none h t r fits (placeAll h t (turns h t p) s .to) (v .running))
 
-  pub first-placed : (g : ℕ) (s : Pos) → DetailOk g → s .page ≡ 1 → s .spot .line ≡ 0 → Placed h t r s (layout h t (firstPlan h g) s)
+  pub first-placed : (g : ℕ) (s : Pos) → DetailOk g → s .page ≡ 1 → s .spot .line ≡ 0 → LaidRunning h t r s (layout h t (firstPlan h g) s)
   unfolding layout
   first-placed g s k e1 e2 = let v = opening-placed s e1 e2 in placed-after h t r fits s (opening h t) _ v (body (firstPlan h g) (opening h t .to) k (v .running))
 
-  pub later-placed : (b g : ℕ) (s : Pos) → DetailOk g → Running (frameOf h t) (s .spot) → Placed h t r s (layout h t (laterPlan h b g) s)
+  pub later-placed : (b g : ℕ) (s : Pos) → DetailOk g → Running (frameOf h t) (s .spot) → LaidRunning h t r s (layout h t (laterPlan h b g) s)
   unfolding layout
   later-placed b g s k run = placed-after h t r fits s (nothing s) _ (placed-none h t r fits s run) (body (laterPlan h b g) s k run)
 
-  pub last-placed : (s : Pos) → Running (frameOf h t) (s .spot) → Closed h t r s (layout h t (lastPlan h) s)
+  pub last-placed : (s : Pos) → Running (frameOf h t) (s .spot) → LaidClosed h t r s (layout h t (lastPlan h) s)
   unfolding layout
   last-placed s run =
       let a = placeAll h t (turns h t (lastPlan h)) s in

@@ -9,7 +9,7 @@ use Rattle.lines.specs.Lines.{lineNumber}
 use Rattle.layout.specs.Layout.{Due}
 use Rattle.layout.specs.Lines.{linesFrom, linesOf}
 use Rattle.pagination.specs.All.{All}
-use Rattle.pagination.specs.Rising.{Spot, spotsAt, spotsOf, Later, Rises, rank, rankOf, Climb}
+use Rattle.pagination.specs.Rising.{Position, spotsAt, spotsOf, Later, Rises, rank, rankOf, Climb}
 
 module _ {A : Type 0} where
   pub all-append : (F : A → Type 0) (xs ys : List A) → All F xs → All F ys → All F (xs ++ ys)
@@ -20,25 +20,25 @@ module _ {A : Type 0} where
   all-map F G f [] a = tt
   all-map F G f (x ∷ xs) a = (f x (a .0), all-map F G f xs (a .1))
 
-pub climb-append : (xs ys : List Spot) (a b c : ℕ) → Climb a xs b → Climb b ys c → Climb a (xs ++ ys) c
+pub climb-append : (xs ys : List Position) (a b c : ℕ) → Climb a xs b → Climb b ys c → Climb a (xs ++ ys) c
 climb-append [] [] a b c p q = omega arith
 climb-append [] (y ∷ ys) a b c p q = (omega arith, q .1)
 climb-append (x ∷ xs) ys a b c p q = (p .0, climb-append xs ys (rankOf x) b c (p .1) q)
 
-pub climb-wider : (xs : List Spot) (a b c : ℕ) → Climb a xs b → b ≤ c → Climb a xs c
+pub climb-wider : (xs : List Position) (a b c : ℕ) → Climb a xs b → b ≤ c → Climb a xs c
 climb-wider [] a b c p q = omega arith
 climb-wider (x ∷ xs) a b c p q = (p .0, climb-wider xs (rankOf x) b c (p .1) q)
 
-above : (ys : List Spot) (a c : ℕ) → Climb a ys c → All (λ y. a < rankOf y) ys
+above : (ys : List Position) (a c : ℕ) → Climb a ys c → All (λ y. a < rankOf y) ys
 above [] a c p = tt
 above (y ∷ ys) a c p =
     (p .0, all-map (λ z. rankOf y < rankOf z) (λ z. a < rankOf z) (λ z h. omega (arith, p .0)) ys (above ys (rankOf y) c (p .1)))
 
-later : (x y : Spot) → rankOf x < rankOf y → Later x y
+later : (x y : Position) → rankOf x < rankOf y → Later x y
 later x y h e f = omega arith
 
 -- places that climb rise on each page
-pub rises : (xs : List Spot) (a c : ℕ) → Climb a xs c → Rises xs
+pub rises : (xs : List Position) (a c : ℕ) → Climb a xs c → Rises xs
 rises [] a c p = tt
 rises (x ∷ xs) a c p =
     (all-map (λ y. rankOf x < rankOf y) (Later x) (λ y h. later x y h) xs (above xs (rankOf x) c (p .1)), rises xs (rankOf x) c (p .1))

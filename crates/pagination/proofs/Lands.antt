@@ -22,12 +22,12 @@ use Rattle.place.proofs.Within.{within, rises, at-most-two, line-le, followed-g
 use Rattle.shape.specs.Shape.{bodyOf, nextOf, frameOf}
 use Rattle.plan.specs.declared.Turn.{Turn}
 use Rattle.layout.specs.declared.Pos.{Pos}
-use Rattle.layout.specs.Layout.{Due, Laid, dueOf, pageHeading, pageFooting, pageChange, pageChanges, nextFor, placedLines, placed, placeGroup, after, placeAll}
+use Rattle.layout.specs.Layout.{Due, Laid, dueOf, pageHeading, pageFooting, pageChange, pageChanges, nextFor, placedLines, placed, placeGroup, andThen, placeAll}
 use Rattle.pagination.specs.All.{All}
 use Rattle.pagination.specs.Rising.{rank}
 use Rattle.pagination.specs.Parts.{partFrom, partTo}
 use Rattle.pagination.specs.Facts.{PageFits}
-use Rattle.pagination.specs.Claims.{Sound, rankAt, Placed}
+use Rattle.pagination.specs.Claims.{Sound, rankAt, LaidRunning}
 use Rattle.pagination.proofs.Groups.{sound-none, sound-append, sound-wider, heading-sound, body-sound, type-is}
 use Rattle.pagination.proofs.Turns.{paged-none, paged-after, body-walk}
 
@@ -136,7 +136,7 @@ module _ (h : Head) (t : List ℕ) (r : ℕ) (fits : PageFits h t) where
         kept-running (frameOf h t) (bodyOf h t (d .group)) (nextFor h t d) (s .spot) (fits .body (d .group) p (k .0) (k .1))
         (next-in d (d .follows) (fits .next (d .group) p (k .0) (k .1))) run
 
-    made-placed : Placed h t r s (placeGroup h t d s)
+    made-placed : LaidRunning h t r s (placeGroup h t d s)
     unfolding placeGroup placed placedLines
     made-placed =
         let g = d .group in
@@ -157,10 +157,10 @@ module _ (h : Head) (t : List ℕ) (r : ℕ) (fits : PageFits h t) where
           pages = omega arith;
         })
 
-  pub placed-none : (s : Pos) → Running (frameOf h t) (s .spot) → Placed h t r s (record { dues = []; to = s })
+  pub placed-none : (s : Pos) → Running (frameOf h t) (s .spot) → LaidRunning h t r s (record { dues = []; to = s })
   placed-none s run = record { sound = sound-none h t r (rankAt r s) (rankAt r s) (omega arith); paged = paged-none h t s; running = run; pages = omega arith }
 
-  pub placed-after : (s : Pos) (a b : Laid) → Placed h t r s a → Placed h t r (a .to) b → Placed h t r s (after a b)
+  pub placed-after : (s : Pos) (a b : Laid) → LaidRunning h t r s a → LaidRunning h t r (a .to) b → LaidRunning h t r s (andThen a b)
   placed-after s a b v w = record {
     sound = sound-append h t r (rankAt r s) (rankAt r (a .to)) (rankAt r (b .to)) (a .dues) (b .dues) (v .sound) (w .sound);
     paged = paged-after h t s a b (b .to .page) (v .paged) (w .paged);
@@ -169,14 +169,14 @@ module _ (h : Head) (t : List ℕ) (r : ℕ) (fits : PageFits h t) where
   }
 
   -- a group without lines, or that is not there, leaves the place
-  absent-placed : (d : Turn) (s : Pos) → present h t (d .group) ≡ false → Running (frameOf h t) (s .spot) → Placed h t r s (placeGroup h t d s)
+  absent-placed : (d : Turn) (s : Pos) → present h t (d .group) ≡ false → Running (frameOf h t) (s .spot) → LaidRunning h t r s (placeGroup h t d s)
   unfolding placeGroup placed dueOf pageChanges
   absent-placed d s p run = rw p (placed-none s run)
 
-  pub group-placed : (d : Turn) (s : Pos) → TurnOk d → Running (frameOf h t) (s .spot) → Placed h t r s (placeGroup h t d s)
+  pub group-placed : (d : Turn) (s : Pos) → TurnOk d → Running (frameOf h t) (s .spot) → LaidRunning h t r s (placeGroup h t d s)
   group-placed d s k run = by-test (present h t (d .group)) (λ p. made-placed d s p (k p) run) (λ p. absent-placed d s p run)
 
-  pub all-placed : (ds : List Turn) (s : Pos) → All TurnOk ds → Running (frameOf h t) (s .spot) → Placed h t r s (placeAll h t ds s)
+  pub all-placed : (ds : List Turn) (s : Pos) → All TurnOk ds → Running (frameOf h t) (s .spot) → LaidRunning h t r s (placeAll h t ds s)
   unfolding placeAll
   all-placed [] s k run = placed-none s run
   all-placed (d ∷ ds) s k run =

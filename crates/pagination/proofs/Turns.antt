@@ -12,7 +12,7 @@ use Rattle.tables.specs.declared.Head.{Head}
 use Rattle.tables.specs.Table.{typeOf}
 use Rattle.fits.specs.Starts.{present, startFrom, aboveHead}
 use Rattle.layout.specs.declared.Pos.{Pos}
-use Rattle.layout.specs.Layout.{Due, Laid, dueOf, reportHeading, pageHeading, pageFooting, reportFooting, rhAt, phAt, pfAt, rfAt, ownPage, pageChange, pageChanges, after, nothing, opening}
+use Rattle.layout.specs.Layout.{Due, Laid, dueOf, reportHeading, pageHeading, pageFooting, reportFooting, rhAt, phAt, pfAt, rfAt, ownPage, pageChange, pageChanges, andThen, nothing, opening}
 use Rattle.pagination.specs.All.{All}
 use Rattle.pagination.specs.Claims.{lastOf, Walk, Paged}
 use Rattle.pagination.specs.Turns.{Chain, HeadsPage, PageTurn, Behind, isBody, bodies, UpToTwo}
@@ -64,7 +64,7 @@ module _ (h : Head) (t : List ℕ) where
   pub paged-none : (s : Pos) → Paged h t s (nothing s) (s .page)
   paged-none s u w e f = walk-none u w (s .page) (s .page) e f
 
-  pub paged-after : (s : Pos) (a b : Laid) (q : ℕ) → Paged h t s a (a .to .page) → Paged h t (a .to) b q → Paged h t s (after a b) q
+  pub paged-after : (s : Pos) (a b : Laid) (q : ℕ) → Paged h t s a (a .to .page) → Paged h t (a .to) b q → Paged h t s (andThen a b) q
   paged-after s a b q v x u w e f =
       let y = v u w e f in
       walk-append u w (a .dues) (b .dues) (a .to .page) (a .to .page) (b .to .page) q y (x (lastOf u (a .dues)) (lastOf w (bodies h t (a .dues))) (y .last) (y .body))

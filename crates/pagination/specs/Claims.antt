@@ -38,14 +38,14 @@ abbrev pub Paged : Head → List ℕ → Pos → Laid → ℕ → Type 0
 Paged h t s a q = (u w : Due) → u .page ≡ s .page → w .page ≡ s .page → Walk h t u w (a .dues) (a .to .page) q
 
 -- a layout from a place on, that leaves a place of a running state
-pub record Placed (h : Head) (t : List ℕ) (r : ℕ) (s : Pos) (a : Laid) : Type 0 where
+pub record LaidRunning (h : Head) (t : List ℕ) (r : ℕ) (s : Pos) (a : Laid) : Type 0 where
   pub sound : Sound h t r (rankAt r s) (rankAt r (a .to)) (a .dues)
   pub paged : Paged h t s a (a .to .page)
   pub running : Running (frameOf h t) (a .to .spot)
   pub pages : s .page ≤ a .to .page
 
 -- the last layout of a report leaves only ranges
-pub record Closed (h : Head) (t : List ℕ) (r : ℕ) (s : Pos) (a : Laid) : Type 0 where
+pub record LaidClosed (h : Head) (t : List ℕ) (r : ℕ) (s : Pos) (a : Laid) : Type 0 where
   pub sound : Sound h t r (rankAt r s) (rankAt r (a .to)) (a .dues)
   -- RF may stand on a page behind the last body group's
   pub bodyPage : ℕ

@@ -11,10 +11,6 @@ use Rattle.place.specs.Rules.{Described, NextIn}
 use Rattle.shape.specs.Shape.{bodyOf, nextOf, frameOf}
 use Rattle.layout.specs.Layout.{reportHeading, pageHeading, pageFooting, reportFooting, rhAt, phAt, pfAt, rfAt, ownPage}
 
--- a group with lines that starts at a line stands in a part
-abbrev pub Stands : Head → List ℕ → ℕ → ℕ → ℕ → ℕ → Type 0
-Stands h t g at lo hi = present h t g ≡ true → (lo ≤ at) × (at + span h t g ≤ hi)
-
 pub record PageFits (h : Head) (t : List ℕ) : Type 0 where
   -- D2: "1 ≤ H ≤ FD ≤ LD ≤ FT ≤ P ≤ 999"
   pub top1 : 1 ≤ h .top

@@ -8,25 +8,25 @@ use Rattle.layout.specs.Lines.{linesOf}
 use Rattle.pagination.specs.All.{All}
 
 -- where a line stands: the number of its report, its page, its line number
-pub record Spot : Type 0 where
+pub record Position : Type 0 where
   pub report : ℕ
   pub page : ℕ
   pub line : ℕ
 
-abbrev pub spotsAt : ℕ → ℕ → List ℕ → List Spot
+abbrev pub spotsAt : ℕ → ℕ → List ℕ → List Position
 spotsAt r page [] = []
 spotsAt r page (x ∷ xs) = record { report = r; page = page; line = x } ∷ spotsAt r page xs
 
 -- the lines of due groups, in order
-abbrev pub spotsOf : Head → List ℕ → ℕ → List Due → List Spot
+abbrev pub spotsOf : Head → List ℕ → ℕ → List Due → List Position
 spotsOf h t r [] = []
 spotsOf h t r (u ∷ us) = spotsAt r (u .page) (linesOf h t u) ++ spotsOf h t r us
 
 -- a later line of the same report and page has a greater number
-abbrev pub Later : Spot → Spot → Type 0
+abbrev pub Later : Position → Position → Type 0
 Later x y = x .report ≡ y .report → x .page ≡ y .page → x .line < y .line
 
-abbrev pub Rises : List Spot → Type 0
+abbrev pub Rises : List Position → Type 0
 Rises [] = Unit {0}
 Rises (x ∷ xs) = All (Later x) xs × Rises xs
 
@@ -34,9 +34,9 @@ Rises (x ∷ xs) = All (Later x) xs × Rises xs
 abbrev pub rank : ℕ → ℕ → ℕ → ℕ
 rank report page line = report * 1000000000 + page * 1000 + line
 
-abbrev pub rankOf : Spot → ℕ
+abbrev pub rankOf : Position → ℕ
 rankOf s = rank (s .report) (s .page) (s .line)
 
-abbrev pub Climb : ℕ → List Spot → ℕ → Type 0
+abbrev pub Climb : ℕ → List Position → ℕ → Type 0
 Climb lo [] hi = lo ≤ hi
 Climb lo (s ∷ ss) hi = (lo < rankOf s) × Climb (rankOf s) ss hi

@@ -5,6 +5,7 @@ use mathlib.Core.Bool.{Bool, true, false, cond, _&&_}
 use mathlib.Core.List.{List, [], _∷_}
 use mathlib.Core.Logic.{_⊎_}
 use lib.Dec.{leb}
+use Rattle.tables.specs.Kinds.{typeCH, typeCF}
 use Rattle.tables.specs.declared.Head.{Head}
 use Rattle.tables.specs.Table.{typeOf}
 use Rattle.fits.specs.Starts.{present}
@@ -39,7 +40,7 @@ Behind h t u v = (u .page ≡ v .page) ⊎ PageTurn h t u v
 
 -- the body groups among groups due (types CH 2, DE 3, CF 4)
 abbrev pub isBody : Head → List ℕ → ℕ → Bool
-isBody h t g = leb 2 (typeOf h t g) && leb (typeOf h t g) 4
+isBody h t g = leb typeCH (typeOf h t g) && leb (typeOf h t g) typeCF
 
 unfoldable pub bodies : Head → List ℕ → List Due → List Due
 bodies h t [] = []

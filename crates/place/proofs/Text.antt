@@ -8,11 +8,11 @@ use Rattle.place.specs.declared.First.{First}
 use Rattle.place.specs.declared.First.the-variants.{Absolute, NextPage, Relative}
 use Rattle.place.specs.declared.Spot.{Spot}
 use Rattle.place.specs.Place.{lands, landing}
-use Rattle.place.specs.Fit.{fitTest, afterChange, fits}
+use Rattle.place.specs.Fit.{fitTest, afterChange, landsWithin}
 use Rattle.place.proofs.Laws.{by-test}
 
-settled : (f : Frame) (g : First) (span low : ℕ) (s : Spot) → fits 2 f (record { first = g; span = span; low = low }) s ≡ lands f g span low s
-unfolding fits fitTest afterChange lands
+settled : (f : Frame) (g : First) (span low : ℕ) (s : Spot) → landsWithin 2 f (record { first = g; span = span; low = low }) s ≡ lands f g span low s
+unfolding landsWithin fitTest afterChange lands
 settled f (Absolute n) span low s =
     by-test (ltb (s .line) n)
     (λ l. simp l)
@@ -38,5 +38,5 @@ settled f (Relative n) span low s =
     (λ z. simp (e, z))
     (λ z. by-test (leb (s .saved + 1 + span) low) (λ m. simp (e, z, m)) (λ m. simp (e, z, m))))
 
-pub two-settle : (f : Frame) (b : Body) (s : Spot) → fits 2 f b s ≡ landing f b s
+pub two-settle : (f : Frame) (b : Body) (s : Spot) → landsWithin 2 f b s ≡ landing f b s
 two-settle f b s = settled f (b .first) (b .span) (b .low) s

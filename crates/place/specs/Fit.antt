@@ -56,6 +56,6 @@ abbrev pub changed : (Spot → Landing) → Frame → First → Spot → Landing
 changed again f g s = changePage (settle again (afterChange g (newPage f s)))
 
 -- the landing with at most k page changes; with none left it gives up at line 0
-unfoldable pub fits : ℕ → Frame → Body → Spot → Landing
-fits zero f b s = settle (printAt 0) (fitTest f (b .first) (b .span) (b .low) s)
-fits (suc k) f b s = settle (changed (fits k f b) f (b .first)) (fitTest f (b .first) (b .span) (b .low) s)
+unfoldable pub landsWithin : ℕ → Frame → Body → Spot → Landing
+landsWithin zero f b s = settle (printAt 0) (fitTest f (b .first) (b .span) (b .low) s)
+landsWithin (suc k) f b s = settle (changed (landsWithin k f b) f (b .first)) (fitTest f (b .first) (b .span) (b .low) s)

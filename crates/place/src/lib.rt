@@ -1,7 +1,7 @@
 // Where a body group lands on the page, and what its next-group clause leaves.
 ghost use mathlib.Core.Path.{_≡_};
 ghost use Rattle.place.specs.Place.{isPage, atSaved, landing, followed};
-ghost use Rattle.place.specs.Fit.{absoluteTest, nextPageTest, relativeTest, fitTest, afterChange, changed, fits};
+ghost use Rattle.place.specs.Fit.{absoluteTest, nextPageTest, relativeTest, fitTest, afterChange, changed, landsWithin};
 
 // The last page that prints; refusal 8 is for a change from it.
 pub const LAST_PAGE: u32 = 999_999;
@@ -72,7 +72,7 @@ pub fn land(f: Frame, b: Body, s: Spot) -> Landing
 
 // The fit test, with at most `left` page changes after it. Two are enough.
 fn fit(f: Frame, b: Body, s: Spot, left: u8) -> Landing
-    ensures { λ r. ⌜ r ≡ fits left f b s ⌝ }
+    ensures { λ r. ⌜ r ≡ landsWithin left f b s ⌝ }
 {
     let t = test(f, b, s);
     match t {
@@ -97,7 +97,7 @@ fn fit(f: Frame, b: Body, s: Spot, left: u8) -> Landing
 
 // A page change, and the landing after it with at most `left` more.
 fn change(f: Frame, b: Body, s: Spot, left: u8) -> Landing
-    ensures { λ r. ⌜ r ≡ changed (fits left f b) f (b .first) s ⌝ }
+    ensures { λ r. ⌜ r ≡ changed (landsWithin left f b) f (b .first) s ⌝ }
 {
     let g = b.first;
     let t = after_change(

@@ -3,6 +3,7 @@ use Prim.Native.Nat.{ℕ, zero, suc, _+_, _-_}
 use mathlib.Core.Bool.{true, false, cond}
 use mathlib.Core.List.{List, [], _∷_, _++_}
 use lib.Dec.{ltb, eqb}
+use Rattle.tables.specs.Kinds.{typeCH, typeCF}
 use Rattle.tables.specs.declared.Head.{Head}
 use Rattle.lookup.specs.Find.{theGroup}
 use Rattle.plan.specs.declared.Turn.{Turn}
@@ -10,10 +11,10 @@ use Rattle.plan.specs.declared.Plan.{Plan}
 
 -- the control footing of level b + j: "ignored on a CF more junior than b"; "Control footings .. read fields from the kept record"
 abbrev pub footing : Head → List ℕ → ℕ → ℕ → Turn
-footing h t b j = record { group = theGroup h t 4 (b + j); follows = eqb j 0; «from_kept» = true }
+footing h t b j = record { group = theGroup h t typeCF (b + j); follows = eqb j 0; «from_kept» = true }
 
 abbrev pub heading : Head → List ℕ → ℕ → Turn
-heading h t level = record { group = theGroup h t 2 level; follows = true; «from_kept» = false }
+heading h t level = record { group = theGroup h t typeCH level; follows = true; «from_kept» = false }
 
 abbrev pub detail : ℕ → Turn
 detail g = record { group = g; follows = true; «from_kept» = false }

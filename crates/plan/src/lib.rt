@@ -76,14 +76,14 @@ pub fn turn_at(t: &[u16], h: Head, p: Plan, k: usize) -> Turn
     if k < p.feet {
         let j = p.feet - 1 - k;
         return Turn {
-            group: lookup::find(t, h, 4, p.level + j),
+            group: lookup::find(t, h, tables::CF, p.level + j),
             follows: j == 0,
             from_kept: true,
         };
     }
     if k < p.feet + p.heads {
         return Turn {
-            group: lookup::find(t, h, 2, p.level + (k - p.feet)),
+            group: lookup::find(t, h, tables::CH, p.level + (k - p.feet)),
             follows: true,
             from_kept: false,
         };

@@ -3,6 +3,7 @@ use Prim.Native.Nat.{ℕ, _+_, _≤_}
 use mathlib.Core.Path.{_≡_}
 use mathlib.Core.List.{List, [], _∷_, _++_}
 use lib.ListN.{length, take, replicate}
+use Rattle.file.specs.Limits.{lineMax}
 use Rattle.figures.specs.Number.{digits}
 use Rattle.printed.specs.declared.Prefix.{Prefix}
 
@@ -33,4 +34,4 @@ recordSize prefix w = w + 10 + prefix .len
 
 -- "Each line starts as blanks."
 unfoldable pub blanks : List ℕ
-blanks = replicate 132 32
+blanks = replicate lineMax 32

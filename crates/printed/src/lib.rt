@@ -3,6 +3,7 @@ ghost use mathlib.Core.Path.{_≡_};
 ghost use Prim.Native.Nat.{_+_, _≤_};
 ghost use lib.ListN.{length};
 ghost use Rattle.splice.specs.Splice.{Wrote};
+ghost use Rattle.file.specs.Limits.{lineMax};
 ghost use Rattle.printed.specs.Printed.{inFront, noPrefix, Short, numbered, printed};
 
 // What stands in front of each printed record: the first `len` of two bytes.
@@ -39,11 +40,11 @@ fn put_numbered(
     page: u32,
     line: u64,
     w: usize,
-    text: &[u8; 132],
+    text: &[u8; file::LINE_MAX],
     at: usize,
     out: &mut [u8],
 ) -> usize
-    requires { ⌜ (w ≤ 132) × (at + length (numbered page line w (now text)) ≤ length (now out)) ⌝ }
+    requires { ⌜ (w ≤ lineMax) × (at + length (numbered page line w (now text)) ≤ length (now out)) ⌝ }
     ensures { λ r. ⌜ Wrote (now (out .entry)) at (numbered page line w (now (text .entry))) (now (out .exit)) r ⌝ }
 {
     figures::spell(page as u64, 6, at, out);
@@ -60,11 +61,11 @@ pub fn put_record(
     page: u32,
     line: u64,
     w: usize,
-    text: &[u8; 132],
+    text: &[u8; file::LINE_MAX],
     at: usize,
     out: &mut [u8],
 ) -> usize
-    requires { ⌜ Short prefix × ((w ≤ 132) × (at + length (printed prefix page line w (now text)) ≤ length (now out))) ⌝ }
+    requires { ⌜ Short prefix × ((w ≤ lineMax) × (at + length (printed prefix page line w (now text)) ≤ length (now out))) ⌝ }
     ensures { λ r. ⌜ Wrote (now (out .entry)) at (printed prefix page line w (now (text .entry))) (now (out .exit)) r ⌝ }
 {
     let start = put_front(prefix, at, out);

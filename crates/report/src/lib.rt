@@ -47,7 +47,7 @@ pub fn call(s: State, d: &[u8], asked: Asked, rec: &[u8], out: &mut [u8]) -> Ans
         let mut t = [tables::UNSET; 512];
         return call_in(s, d, &mut t[..n], asked, rec, out);
     }
-    let mut t = [tables::UNSET; 4392];
+    let mut t = [tables::UNSET; tables::NUMBERS_MAX];
     call_in(s, d, &mut t[..n], asked, rec, out)
 }
 

@@ -5,6 +5,7 @@ use mathlib.Core.List.{List}
 use lib.Dec.{eqb, ltb}
 use lib.IntN.{ℤ}
 use Rattle.counts.specs.Below.{firstBelow, foldBelow}
+use Rattle.tables.specs.Kinds.{addendCounter}
 use Rattle.tables.specs.declared.Head.{Head}
 use Rattle.tables.specs.Table.{levelOf, counterGroup, firstAddend, addendCount, addendKind, addendIndex}
 use Rattle.sums.specs.declared.Totals.{Totals}
@@ -13,7 +14,7 @@ use Rattle.sums.specs.Subtotal.{eachAddend}
 
 -- addend a names a counter of group g
 abbrev pub sameGroup : Head → List ℕ → ℕ → ℕ → Bool
-sameGroup h t g a = eqb (addendKind h t a) 1 && eqb (counterGroup h t (addendIndex h t a)) g
+sameGroup h t g a = eqb (addendKind h t a) addendCounter && eqb (counterGroup h t (addendIndex h t a)) g
 
 unfoldable pub addSame : Head → List ℕ → ℕ → ℕ → ℕ → Totals → Totals
 addSame h t g k a acc = cond (sameGroup h t g a) (addAt k (sumAt (addendIndex h t a) acc) acc) acc
@@ -24,7 +25,7 @@ crossCounter h t g k acc = eachAddend h t k (addSame h t g k) acc
 
 -- counter s names counter k
 abbrev pub namesAt : Head → List ℕ → ℕ → ℕ → ℕ → Bool
-namesAt h t s k j = eqb (addendKind h t (firstAddend h t s + j)) 1 && eqb (addendIndex h t (firstAddend h t s + j)) k
+namesAt h t s k j = eqb (addendKind h t (firstAddend h t s + j)) addendCounter && eqb (addendIndex h t (firstAddend h t s + j)) k
 
 unfoldable pub names : Head → List ℕ → ℕ → ℕ → Bool
 names h t s k = ltb (firstBelow (addendCount h t s) (namesAt h t s k)) (addendCount h t s)

@@ -15,7 +15,7 @@ fn add_same(
     k: usize,
     a: usize,
     ok: bool,
-    sums: &mut [i64; 32],
+    sums: &mut [i64; file::COUNTERS_MAX],
 ) -> bool
     requires { ⌜ (CountersIn h (now t) × (sumsOk (now sums) ≡ true)) × (AddendIn h (now t) a × ((k < h .counters) × (a < 131072))) ⌝ }
     ensures { λ r. ⌜ Does (addSame h (now (t .entry)) g k a) ok (now (sums .entry)) r (now (sums .exit)) ⌝ }
@@ -23,7 +23,7 @@ fn add_same(
     let kind = tables::addend_num(t, h, a, 0);
     let index = tables::addend_num(t, h, a, 1);
     let group = tables::counter_num(t, h, index, 0);
-    if (kind == 1) & (group == g) {
+    if (kind == tables::ADDEND_COUNTER) & (group == g) {
         let x = sums[index];
         return sums::add_to(k, x, ok, sums);
     }
@@ -31,7 +31,14 @@ fn add_same(
 }
 
 // The crossfoot of counter `k`: its addends in order.
-pub fn cross_counter(t: &[u16], h: Head, g: usize, k: usize, ok: bool, sums: &mut [i64; 32]) -> bool
+pub fn cross_counter(
+    t: &[u16],
+    h: Head,
+    g: usize,
+    k: usize,
+    ok: bool,
+    sums: &mut [i64; file::COUNTERS_MAX],
+) -> bool
     requires { ⌜ (CountersIn h (now t) × (sumsOk (now sums) ≡ true)) × (k < h .counters) ⌝ }
     ensures { λ r. ⌜ Does (crossCounter h (now (t .entry)) g k) ok (now (sums .entry)) r (now (sums .exit)) ⌝ }
 {
@@ -56,7 +63,8 @@ fn names(t: &[u16], h: Head, s: usize, k: usize) -> bool
     let mut j = 0;
     while j < n {
         let a = first + j;
-        let this = (tables::addend_num(t, h, a, 0) == 1) & (tables::addend_num(t, h, a, 1) == k);
+        let this = (tables::addend_num(t, h, a, 0) == tables::ADDEND_COUNTER)
+            & (tables::addend_num(t, h, a, 1) == k);
         if this {
             return true;
         }
@@ -74,7 +82,7 @@ fn roll_into(
     x: i64,
     s: usize,
     ok: bool,
-    sums: &mut [i64; 32],
+    sums: &mut [i64; file::COUNTERS_MAX],
 ) -> bool
     requires { ⌜ (CountersIn h (now t) × (sumsOk (now sums) ≡ true)) × ((s < h .counters) × (inRange x ≡ true)) ⌝ }
     ensures { λ r. ⌜ Does (rollInto h (now (t .entry)) level k x s) ok (now (sums .entry)) r (now (sums .exit)) ⌝ }
@@ -90,7 +98,14 @@ fn roll_into(
 }
 
 // The roll-up of counter `k` of group `g`, into the counters in order.
-pub fn roll_counter(t: &[u16], h: Head, g: usize, k: usize, ok: bool, sums: &mut [i64; 32]) -> bool
+pub fn roll_counter(
+    t: &[u16],
+    h: Head,
+    g: usize,
+    k: usize,
+    ok: bool,
+    sums: &mut [i64; file::COUNTERS_MAX],
+) -> bool
     requires { ⌜ (CountersIn h (now t) × (sumsOk (now sums) ≡ true)) × ((k < h .counters) × (g < 65536)) ⌝ }
     ensures { λ r. ⌜ Does (rollCounter h (now (t .entry)) g k) ok (now (sums .entry)) r (now (sums .exit)) ⌝ }
 {

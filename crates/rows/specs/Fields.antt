@@ -7,6 +7,7 @@ use lib.ListN.{length, take, drop}
 use Rattle.counts.specs.Below.{allBelow, firstBelow}
 use Rattle.ascii.specs.Printable.{allPrintable}
 use Rattle.number.specs.Value.{isNumber}
+use Rattle.tables.specs.Kinds.{kindNumber}
 use Rattle.tables.specs.declared.Head.{Head}
 use Rattle.tables.specs.Table.{fieldKind, fieldOffset, fieldWidth}
 
@@ -20,7 +21,7 @@ isText s = allPrintable (length s) s
 
 -- a number field holds a number, any other text
 unfoldable pub wellFormed : List ℕ → List ℕ → ℕ → Bool
-wellFormed t rec i = cond (eqb (fieldKind t i) 1) (isNumber (fieldPart t rec i)) (isText (fieldPart t rec i))
+wellFormed t rec i = cond (eqb (fieldKind t i) kindNumber) (isNumber (fieldPart t rec i)) (isText (fieldPart t rec i))
 
 unfoldable pub formed : Head → List ℕ → List ℕ → Bool
 formed h t rec = allBelow (h .fields) (wellFormed t rec)

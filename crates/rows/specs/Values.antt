@@ -7,6 +7,7 @@ use lib.IntN.{ℤ, pos, negsuc}
 use lib.ListN.{length, getD}
 use Rattle.counts.specs.Below.{allBelow}
 use Rattle.number.specs.Value.{numberOf}
+use Rattle.tables.specs.Kinds.{kindNumber}
 use Rattle.tables.specs.Table.{fieldKind}
 use Rattle.rows.specs.Fields.{fieldPart}
 
@@ -16,7 +17,7 @@ pub data FieldValue : Type 0 where
   text : List ℕ → FieldValue
 
 abbrev pub valueOf : List ℕ → List ℕ → ℕ → FieldValue
-valueOf t rec i = cond (eqb (fieldKind t i) 1) (number (numberOf (fieldPart t rec i))) (text (fieldPart t rec i))
+valueOf t rec i = cond (eqb (fieldKind t i) kindNumber) (number (numberOf (fieldPart t rec i))) (text (fieldPart t rec i))
 
 -- the tests of equality that the code makes
 abbrev pub sameNumber : ℤ → ℤ → Bool

@@ -12,9 +12,6 @@ ghost use Rattle.rows.specs.Facts.{Whole, Comparable, PartIn, FieldForme
 use number::parse;
 use tables::Head;
 
-// The control that is no field.
-const FINAL: usize = 65535;
-
 // Field `i` of a record.
 pub fn part<'a>(t: &[u16], rec: &'a [u8], i: usize) -> &'a [u8]
     requires { ⌜ PartIn (now t) (now rec) i ⌝ }
@@ -50,7 +47,7 @@ fn well_formed(t: &[u16], rec: &[u8], i: usize) -> bool
     ensures { λ r. ⌜ r ≡ wellFormed (now (t .entry)) (now (rec .entry)) i ⌝ }
 {
     let kind = tables::field_num(t, i, 0);
-    if kind == 1 {
+    if kind == tables::FIELD_NUMBER {
         parse::is_number(part(t, rec, i))
     } else {
         let text = part(t, rec, i);
@@ -107,7 +104,7 @@ fn same_value(t: &[u16], kept: &[u8], row: &[u8], i: usize) -> bool
     let a = part(t, kept, i);
     let b = part(t, row, i);
     let kind = tables::field_num(t, i, 0);
-    if kind == 1 {
+    if kind == tables::FIELD_NUMBER {
         same_number(a, b)
     } else {
         same_bytes(a, b)
@@ -120,7 +117,7 @@ fn control_differs(t: &[u16], h: Head, kept: &[u8], row: &[u8], j: usize) -> boo
     ensures { λ r. ⌜ r ≡ controlDiffers h (now (t .entry)) (now (kept .entry)) (now (row .entry)) j ⌝ }
 {
     let field = tables::control_num(t, h, j);
-    if field == FINAL {
+    if field == tables::FINAL {
         return false;
     }
     !same_value(t, kept, row, field)

@@ -14,10 +14,10 @@ use tables::Head;
 fn as_first(kind: usize, n: u16) -> First
     ensures { λ r. ⌜ r ≡ asFirst kind n ⌝ }
 {
-    if kind == 0 {
+    if kind == tables::LINE_ABSOLUTE {
         return First::Absolute(n);
     }
-    if kind == 1 {
+    if kind == tables::LINE_NEXT_PAGE {
         First::NextPage(n)
     } else {
         First::Relative(n)
@@ -27,13 +27,13 @@ fn as_first(kind: usize, n: u16) -> First
 fn as_next(kind: usize, k: u16) -> Next
     ensures { λ r. ⌜ r ≡ asNext kind k ⌝ }
 {
-    if kind == 0 {
+    if kind == tables::NEXT_NONE {
         return Next::None;
     }
-    if kind == 1 {
+    if kind == tables::NEXT_ABSOLUTE {
         return Next::Absolute(k);
     }
-    if kind == 2 {
+    if kind == tables::NEXT_RELATIVE {
         Next::Relative(k)
     } else {
         Next::NextPage
@@ -55,7 +55,7 @@ fn low_of(t: &[u16], h: Head, g: usize) -> u16
     requires { ⌜ g < 65536 ⌝ }
     ensures { λ r. ⌜ r ≡ lowOf h (now (t .entry)) g ⌝ }
 {
-    if tables::group_num(t, h, g, 0) == 4 {
+    if tables::group_num(t, h, g, 0) == tables::CF {
         h.ft
     } else {
         h.ld
@@ -82,7 +82,7 @@ pub fn body_of(t: &[u16], h: Head, g: usize) -> Body
 fn head_line(t: &[u16], h: Head) -> usize
     ensures { λ r. ⌜ r ≡ headLine h (now (t .entry)) ⌝ }
 {
-    let ph = lookup::find(t, h, 1, 0);
+    let ph = lookup::find(t, h, tables::PH, 0);
     let there = fits::present_of(t, h, ph);
     let start = fits::start_from(t, h, fits::above_head(h), ph);
     let last = start + lines::span_of(t, h, ph);

@@ -3,6 +3,7 @@ use Prim.Native.Nat.{ℕ}
 use mathlib.Core.Bool.{false}
 use lib.IntN.{pos}
 use lib.ListN.{replicate}
+use Rattle.file.specs.Limits.{recordMax, countersMax, detailsMax}
 use Rattle.state.specs.declared.State.{State}
 
 -- "phase (idle, started, running)"
@@ -17,13 +18,13 @@ running = 2
 
 -- "up to 32 sums", "eight indicate flags", "a kept record of 256 bytes"
 abbrev pub sumCount : ℕ
-sumCount = 32
+sumCount = countersMax
 
 abbrev pub flagCount : ℕ
-flagCount = 8
+flagCount = detailsMax
 
 abbrev pub keptSize : ℕ
-keptSize = 256
+keptSize = recordMax
 
 -- "A fresh report is idle, line 0, page 1, all else 0."; "Started: as fresh but for the phase."
 abbrev pub freshAt : ℕ → State

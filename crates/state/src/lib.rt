@@ -11,11 +11,11 @@ ghost use Rattle.state.specs.Facts.{Testable};
 use tables::Head;
 
 // The sums, the indicate flags and the bytes of the kept record that a state has.
-pub const SUM_COUNT: usize = 32;
+pub const SUM_COUNT: usize = file::COUNTERS_MAX;
 
-pub const FLAG_COUNT: usize = 8;
+pub const FLAG_COUNT: usize = file::DETAILS_MAX;
 
-pub const KEPT_SIZE: usize = 256;
+pub const KEPT_SIZE: usize = file::RECORD_MAX;
 
 // The greatest saved integer.
 pub const LAST_SAVED: u16 = 999;

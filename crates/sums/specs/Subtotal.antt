@@ -5,6 +5,7 @@ use mathlib.Core.List.{List}
 use lib.Dec.{eqb}
 use Rattle.counts.specs.Below.{foldBelow}
 use Rattle.number.specs.Value.{numberOf}
+use Rattle.tables.specs.Kinds.{addendField}
 use Rattle.tables.specs.declared.Head.{Head}
 use Rattle.tables.specs.Table.{firstAddend, addendCount, addendKind, addendIndex, addendMask}
 use Rattle.rows.specs.Fields.{fieldPart}
@@ -17,7 +18,7 @@ eachAddend h t k f acc = foldBelow (addendCount h t k) (λ j. f (firstAddend h t
 
 -- a field addend "whose mask has d" ("bit i for detail i")
 abbrev pub selected : Head → List ℕ → ℕ → ℕ → Bool
-selected h t d a = eqb (addendKind h t a) 0 && eqb (addendMask h t a / 2 ^ d % 2) 1
+selected h t d a = eqb (addendKind h t a) addendField && eqb (addendMask h t a / 2 ^ d % 2) 1
 
 -- addend a of counter k
 unfoldable pub addField : Head → List ℕ → List ℕ → ℕ → ℕ → ℕ → Totals → Totals

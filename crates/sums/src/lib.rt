@@ -15,8 +15,8 @@ pub const LIMIT: u64 = 999_999_999_999_999_999;
 // The sums; whether no addition was refused; each counter's sum as its footing shows it.
 pub struct Totals {
     pub ok: bool,
-    pub sums: [i64; 32],
-    pub shown: [i64; 32],
+    pub sums: [i64; file::COUNTERS_MAX],
+    pub shown: [i64; file::COUNTERS_MAX],
 }
 
 pub fn within(x: i64) -> bool
@@ -26,7 +26,7 @@ pub fn within(x: i64) -> bool
 }
 
 // Adds x to sum i, or refuses; whether no addition was refused. The sums stay where they are: a copy for each addend is dear.
-pub fn add_to(i: usize, x: i64, ok: bool, sums: &mut [i64; 32]) -> bool
+pub fn add_to(i: usize, x: i64, ok: bool, sums: &mut [i64; file::COUNTERS_MAX]) -> bool
     requires { ⌜ (sumsOk (now sums) ≡ true) × ((i < 32) × (inRange x ≡ true)) ⌝ }
     ensures { λ r. ⌜ Does (addAt i x) ok (now (sums .entry)) r (now (sums .exit)) ⌝ }
 {
@@ -47,14 +47,14 @@ fn add_field(
     k: usize,
     a: usize,
     ok: bool,
-    sums: &mut [i64; 32],
+    sums: &mut [i64; file::COUNTERS_MAX],
 ) -> bool
     requires { ⌜ Adding h (now t) (now rec) d (totals ok (now sums) []) × (AddendIn h (now t) a × ((k < h .counters) × (a < 131072))) ⌝ }
     ensures { λ r. ⌜ Does (addField h (now (t .entry)) (now (rec .entry)) d k a) ok (now (sums .entry)) r (now (sums .exit)) ⌝ }
 {
     let kind = tables::addend_num(t, h, a, 0);
     let mask = tables::addend_num(t, h, a, 2);
-    if (kind == 0) & ((mask >> d) % 2 == 1) {
+    if (kind == tables::ADDEND_FIELD) & ((mask >> d) % 2 == 1) {
         let field = tables::addend_num(t, h, a, 1);
         return add_to(k, rows::field_number(t, rec, field), ok, sums);
     }
@@ -69,7 +69,7 @@ fn add_fields(
     d: usize,
     k: usize,
     ok: bool,
-    sums: &mut [i64; 32],
+    sums: &mut [i64; file::COUNTERS_MAX],
 ) -> bool
     requires { ⌜ Adding h (now t) (now rec) d (totals ok (now sums) []) × (k < h .counters) ⌝ }
     ensures { λ r. ⌜ Does (addFields h (now (t .entry)) (now (rec .entry)) d k) ok (now (sums .entry)) r (now (sums .exit)) ⌝ }
@@ -86,7 +86,14 @@ fn add_fields(
 }
 
 // The subtotal of a row: the counters in order.
-pub fn subtotal(t: &[u16], h: Head, rec: &[u8], d: usize, ok: bool, sums: &mut [i64; 32]) -> bool
+pub fn subtotal(
+    t: &[u16],
+    h: Head,
+    rec: &[u8],
+    d: usize,
+    ok: bool,
+    sums: &mut [i64; file::COUNTERS_MAX],
+) -> bool
     requires { ⌜ Adding h (now t) (now rec) d (totals ok (now sums) []) ⌝ }
     ensures { λ r. ⌜ Does (subtotalSpec h (now (t .entry)) (now (rec .entry)) d) ok (now (sums .entry)) r (now (sums .exit)) ⌝ }
 {

@@ -2,34 +2,34 @@
 -- Assumes nothing.
 use borrow.Author.Needs.{needs}
 use borrow.Author.Tests.{ne-eqb, le-leb, lt-leb}
-use Rattle.fits.specs.Fits.{fits}
+use Rattle.fits.specs.Fits.{groupFits}
 use Rattle.fits.proofs.fits_page.Statement.{statement}
 use Rattle.fits.proofs.fits_page.Tie as tie
 
 returns : tie.Need-returns
-unfolding fits
+unfolding groupFits
 returns c = rw (← c .before .before .before .group-num .ensures .is, c .before .before .if1 .taken, c .head-fits .ensures, c .before .above-head .ensures .is)
 
 returns-2 : tie.Need-returns-2
-unfolding fits
+unfolding groupFits
 returns-2 c = rw (← c .before .before .before .before .group-num .ensures .is, c .before .before .if2 .taken, c .head-fits2 .ensures, c .before .head-end .ensures .is)
 
 returns-3 : tie.Need-returns-3
-unfolding fits
+unfolding groupFits
 returns-3 c =
     let b = c .before .before .before in
     rw (← b .before .before .group-num .ensures .is, ne-eqb _ _ (b .before .if1 .left), ne-eqb _ _ (b .if2 .left), le-leb _ _ (c .before .before .if3 .taken), c .body-fits .ensures, c .before .wide .ensures .is)
 
 returns-4 : tie.Need-returns-4
-unfolding fits
+unfolding groupFits
 returns-4 c = rw (← c .before .before .before .before .before .before .group-num .ensures .is, c .before .before .if4 .taken, c .body-fits2 .ensures, c .before .wide2 .ensures .is)
 
 returns-5 : tie.Need-returns-5
-unfolding fits
+unfolding groupFits
 returns-5 c = rw (← c .before .before .before .before .before .before .before .group-num .ensures .is, c .before .before .if5 .taken, c .foot-fits .ensures, c .before .wide3 .ensures .is)
 
 returns-6 : tie.Need-returns-6
-unfolding fits
+unfolding groupFits
 returns-6 c =
     let b = c .before .before .before .before in
     let e = ne-eqb _ _ (c .before .before .before .if4 .left) in
