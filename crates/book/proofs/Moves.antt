@@ -49,7 +49,7 @@ module _ (h : Head) (t : List ℕ) where
   module _ (p q r : ℕ) (us : List Due) (walk : (u w : Due) → u .page ≡ p → w .page ≡ p → Walk h t u w us q r) where
     pub walk-pages : 1 ≤ p → All (λ v. (1 ≤ v .page) × (v .page ≤ q)) us
     walk-pages l =
-        let u : Due = record { group = 0; fromKept = false; page = p; at = 0; turned = 0 } in
+        let u : Due = record { group = 0; fromKept = false; page = p; at = 0 } in
         let x = walk u u refl refl in
         all-map (λ v. (p ≤ v .page) × (v .page ≤ q)) (λ v. (1 ≤ v .page) × (v .page ≤ q)) (λ v y. (omega (arith, y .0), y .1)) us
         (pages-in h t us u q (x .behind) (omega (arith, x .last)) .1)

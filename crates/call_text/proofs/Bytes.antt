@@ -44,15 +44,11 @@ module _ (h : Head) (t : List ℕ) (rd : Reading) where
   if-due false u = refl
 
   -- one group, if it is present, whatever page changes were made for it
-  pub bytes-due : (g : ℕ) (v : View) (turned : ℕ) {there : Bool} → v .flag ≡ rd .flag → v .prefix ≡ rd .prefix → present h t g ≡ there
-      → dueBytes h t rd (dueOf h t g (v .«from_kept») (v .page) (v .line) turned) ≡ cond there (groupBytes h t (inputsOf rd) v g) []
+  pub bytes-due : (g : ℕ) (v : View) {there : Bool} → v .flag ≡ rd .flag → v .prefix ≡ rd .prefix → present h t g ≡ there
+      → dueBytes h t rd (dueOf h t g (v .«from_kept») (v .page) (v .line)) ≡ cond there (groupBytes h t (inputsOf rd) v g) []
   unfolding dueOf
-  bytes-due g v turned f p e =
+  bytes-due g v f p e =
       if-due (present h t g) _ ∙ rw (← f, ← p) (ap (λ (b : Bool). cond b (groupBytes h t (inputsOf rd) v g) []) e)
-
-  pub bytes-turned : (g : ℕ) (fromKept : Bool) (page at turned : ℕ) → dueBytes h t rd (dueOf h t g fromKept page at turned) ≡ dueBytes h t rd (dueOf h t g fromKept page at 0)
-  unfolding dueOf
-  bytes-turned g fromKept page at turned = if-due (present h t g) _ ∙ sym (if-due (present h t g) _)
 
 pub present-group : (h : Head) (t : List ℕ) (g : ℕ) → present h t g ≡ true → g < h .groups
 present-group h t g e = ltb-true _ _ (and-l _ _ e)
@@ -67,27 +63,27 @@ module _ (h : Head) (t : List ℕ) where
   in-append none b = b
   in-append (more g a) b = more g (in-append a b)
 
-  in-due : (g : ℕ) (fromKept : Bool) (page at turned : ℕ) → GroupsIn h (dueOf h t g fromKept page at turned)
+  in-due : (g : ℕ) (fromKept : Bool) (page at : ℕ) → GroupsIn h (dueOf h t g fromKept page at)
   unfolding dueOf
-  in-due g fromKept page at turned = by-cond (GroupsIn h) (present h t g) (λ e. more (present-group h t g e) none) (λ e. none)
+  in-due g fromKept page at = by-cond (GroupsIn h) (present h t g) (λ e. more (present-group h t g e) none) (λ e. none)
 
   in-changes : (fromKept : Bool) (n page : ℕ) → GroupsIn h (pageChanges h t fromKept n page)
   unfolding pageChanges pageChange
   in-changes fromKept zero page = none
-  in-changes fromKept (suc n) page = in-append (in-append (in-due _ _ _ _ _) (in-due _ _ _ _ _)) (in-changes fromKept n (page + 1))
+  in-changes fromKept (suc n) page = in-append (in-append (in-due _ _ _ _) (in-due _ _ _ _)) (in-changes fromKept n (page + 1))
 
   in-turns : (ds : List Turn) (s : Pos) → GroupsIn h (placeAll h t ds s .dues)
   unfolding placeAll placeGroup
   in-turns [] s = none
-  in-turns (d ∷ ds) s = in-append (in-append (in-changes _ _ _) (in-due _ _ _ _ _)) (in-turns ds _)
+  in-turns (d ∷ ds) s = in-append (in-append (in-changes _ _ _) (in-due _ _ _ _)) (in-turns ds _)
 
   in-opened : (p : Plan) (s : Pos) → GroupsIn h (opened h t p s .dues)
   unfolding opening
-  in-opened p s = by-cond (λ (x : Laid). GroupsIn h (x .dues)) (p .opens) (λ _. in-append (in-due _ _ _ _ _) (in-due _ _ _ _ _)) (λ _. none)
+  in-opened p s = by-cond (λ (x : Laid). GroupsIn h (x .dues)) (p .opens) (λ _. in-append (in-due _ _ _ _) (in-due _ _ _ _)) (λ _. none)
 
   in-closed : (p : Plan) (s : Pos) → GroupsIn h (closed h t p s .dues)
   unfolding closing
-  in-closed p s = by-cond (λ (x : Laid). GroupsIn h (x .dues)) (p .closes) (λ _. in-append (in-due _ _ _ _ _) (in-due _ _ _ _ _)) (λ _. none)
+  in-closed p s = by-cond (λ (x : Laid). GroupsIn h (x .dues)) (p .closes) (λ _. in-append (in-due _ _ _ _) (in-due _ _ _ _)) (λ _. none)
 
   pub in-layout : (p : Plan) (s : Pos) → GroupsIn h (layout h t p s .dues)
   unfolding layout

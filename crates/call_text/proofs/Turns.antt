@@ -20,7 +20,6 @@ use Rattle.layout.proofs.Walks.{ahead, ahead-step, ahead-end, Walk, walk-start,
 use Rattle.call_text.specs.declared.Cursor.{Cursor}
 use Rattle.call_text.specs.Bytes.{Reading, dueBytes}
 use Rattle.call_text.specs.Facts.{Room, Printed}
-use Rattle.call_text.proofs.Bytes.{bytes-turned}
 use Rattle.call_text.proofs.Prints.{Printing, printing-start, printing-rest, printing-room, printing-on, printing-last, printing-end}
 
 -- one turn, from where it is placed
@@ -29,27 +28,24 @@ module _ {h : Head} {t : List ℕ} {rd : Reading} (d : Turn) (s : Pos) (start : 
   abbrev changes : List Due
   changes = pageChanges h t (d .«from_kept») (r .changes) (s .page)
 
-  abbrev group : ℕ → List Due
-  group turned = dueOf h t (d .group) (d .«from_kept») (r .to .page) line turned
+  abbrev group : List Due
+  group = dueOf h t (d .group) (d .«from_kept») (r .to .page) line
 
-  both : placeGroup h t d s .dues ≡ changes ++ group (r .changes)
+  both : placeGroup h t d s .dues ≡ changes ++ group
   both = rw f (group-dues h t d s r e)
 
-  turned : dueBytes h t rd (group (r .changes)) ≡ dueBytes h t rd (group 0)
-  turned = bytes-turned h t rd (d .group) (d .«from_kept») (r .to .page) line (r .changes)
-
   pub turn-changes : Room h t rd changes start old
-  turn-changes = printing-room (printing-start room) changes (group (r .changes)) both
+  turn-changes = printing-room (printing-start room) changes group both
 
   module _ (mid : List ℕ) (a : ℕ) (w : Wrote old start (dueBytes h t rd changes) mid a) where
-    after-changes : Printing h t rd old start (placeGroup h t d s .dues) mid a (group (r .changes))
-    after-changes = printing-on (printing-start room) changes (group (r .changes)) both w
+    after-changes : Printing h t rd old start (placeGroup h t d s .dues) mid a group
+    after-changes = printing-on (printing-start room) changes group both w
 
-    pub turn-due : Room h t rd (group 0) a mid
-    turn-due = let q = printing-rest after-changes in record { printable = q .printable; room = rw (← turned) (q .room) }
+    pub turn-due : Room h t rd group a mid
+    turn-due = printing-rest after-changes
 
-    pub turn-printed : (new : List ℕ) (at : ℕ) → Wrote mid a (dueBytes h t rd (group 0)) new at → Printed h t rd (placeGroup h t d s) old start new (record { at = at; pos = r .to })
-    turn-printed new at v = record { wrote = printing-last after-changes (rw turned v); pos = sym (group-to h t d s r e) }
+    pub turn-printed : (new : List ℕ) (at : ℕ) → Wrote mid a (dueBytes h t rd group) new at → Printed h t rd (placeGroup h t d s) old start new (record { at = at; pos = r .to })
+    turn-printed new at v = record { wrote = printing-last after-changes v; pos = sym (group-to h t d s r e) }
 
 -- the turns of a plan
 module _ (h : Head) (t : List ℕ) (rd : Reading) (p : Plan) (old : List ℕ) (start : ℕ) (from : Pos) where

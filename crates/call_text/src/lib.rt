@@ -81,8 +81,8 @@ fn print_due<'a>(
     p: Print,
     out: &mut [u8],
 ) -> usize
-    requires { ⌜ StartIn h (p .group) (p .first .line) × Room h (now t) (reading (now lits) (now kept) (now row) (now sums) (p .first .flag) (p .first .prefix)) (dueOf h (now t) (p .group) (p .first .«from_kept») (p .first .page) (p .first .line) 0) (p .at) (now out) ⌝ }
-    ensures { λ r. ⌜ Wrote (now (out .entry)) (p .at) (dueBytes h (now (t .entry)) (reading (now (lits .entry)) (now (kept .entry)) (now (row .entry)) (now (sums .entry)) (p .first .flag) (p .first .prefix)) (dueOf h (now (t .entry)) (p .group) (p .first .«from_kept») (p .first .page) (p .first .line) 0)) (now (out .exit)) r ⌝ }
+    requires { ⌜ StartIn h (p .group) (p .first .line) × Room h (now t) (reading (now lits) (now kept) (now row) (now sums) (p .first .flag) (p .first .prefix)) (dueOf h (now t) (p .group) (p .first .«from_kept») (p .first .page) (p .first .line)) (p .at) (now out) ⌝ }
+    ensures { λ r. ⌜ Wrote (now (out .entry)) (p .at) (dueBytes h (now (t .entry)) (reading (now (lits .entry)) (now (kept .entry)) (now (row .entry)) (now (sums .entry)) (p .first .flag) (p .first .prefix)) (dueOf h (now (t .entry)) (p .group) (p .first .«from_kept») (p .first .page) (p .first .line))) (now (out .exit)) r ⌝ }
 {
     if fits::present_of(t, h, p.group) {
         return group_text::print_group(t, h, lits, kept, row, sums, p, out);
@@ -101,8 +101,8 @@ fn print_pair<'a>(
     x: Pair,
     out: &mut [u8],
 ) -> usize
-    requires { ⌜ StartIn h (x .one .group) (x .one .at) × (StartIn h (x .two .group) (x .two .at) × Room h (now t) (reading (now lits) (now kept) (now row) (now sums) (x .view .flag) (x .view .prefix)) (dueOf h (now t) (x .one .group) (x .view .«from_kept») (x .view .page) (x .one .at) 0 ++ dueOf h (now t) (x .two .group) (x .view .«from_kept») (x .next) (x .two .at) 0) (x .at) (now out)) ⌝ }
-    ensures { λ r. ⌜ Wrote (now (out .entry)) (x .at) (dueBytes h (now (t .entry)) (reading (now (lits .entry)) (now (kept .entry)) (now (row .entry)) (now (sums .entry)) (x .view .flag) (x .view .prefix)) (dueOf h (now (t .entry)) (x .one .group) (x .view .«from_kept») (x .view .page) (x .one .at) 0 ++ dueOf h (now (t .entry)) (x .two .group) (x .view .«from_kept») (x .next) (x .two .at) 0)) (now (out .exit)) r ⌝ }
+    requires { ⌜ StartIn h (x .one .group) (x .one .at) × (StartIn h (x .two .group) (x .two .at) × Room h (now t) (reading (now lits) (now kept) (now row) (now sums) (x .view .flag) (x .view .prefix)) (dueOf h (now t) (x .one .group) (x .view .«from_kept») (x .view .page) (x .one .at) ++ dueOf h (now t) (x .two .group) (x .view .«from_kept») (x .next) (x .two .at)) (x .at) (now out)) ⌝ }
+    ensures { λ r. ⌜ Wrote (now (out .entry)) (x .at) (dueBytes h (now (t .entry)) (reading (now (lits .entry)) (now (kept .entry)) (now (row .entry)) (now (sums .entry)) (x .view .flag) (x .view .prefix)) (dueOf h (now (t .entry)) (x .one .group) (x .view .«from_kept») (x .view .page) (x .one .at) ++ dueOf h (now (t .entry)) (x .two .group) (x .view .«from_kept») (x .next) (x .two .at))) (now (out .exit)) r ⌝ }
 {
     let view = x.view;
     let one = x.one;

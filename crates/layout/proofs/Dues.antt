@@ -16,7 +16,7 @@ use Rattle.layout.proofs.Steps.{group-page}
 module _ (h : Head) (t : List ℕ) where
   -- a turn: its page changes, and the group on the page that they reach
   pub group-dues : (d : Turn) (s : Pos) (r : Placed) → r ≡ placed h t d s
-      → placeGroup h t d s .dues ≡ pageChanges h t (d .«from_kept») (r .changes) (s .page) ++ dueOf h t (d .group) (d .«from_kept») (r .to .page) (r .at) (r .changes)
+      → placeGroup h t d s .dues ≡ pageChanges h t (d .«from_kept») (r .changes) (s .page) ++ dueOf h t (d .group) (d .«from_kept») (r .to .page) (r .at)
   unfolding placeGroup
   group-dues d s r e = rw (e, group-page h t d s) refl
 
@@ -26,16 +26,16 @@ module _ (h : Head) (t : List ℕ) where
 
   -- a page change: PF, and PH on the next page
   pub change-dues : (fromKept : Bool) (page : ℕ) (pf ph : Start) → pf ≡ startAt h t (h .ft) 5 → ph ≡ startAt h t (aboveHead h) 1
-      → pageChange h t fromKept page ≡ dueOf h t (pf .group) fromKept page (pf .at) 0 ++ dueOf h t (ph .group) fromKept (page + 1) (ph .at) 0
+      → pageChange h t fromKept page ≡ dueOf h t (pf .group) fromKept page (pf .at) ++ dueOf h t (ph .group) fromKept (page + 1) (ph .at)
   unfolding pageChange
   change-dues fromKept page pf ph e f = rw (e, f) refl
 
   pub opening-dues : (rh ph : Start) → rh ≡ startAt h t (aboveHead h) 0 → ph ≡ startAt h t (headEnd h t) 1
-      → opening h t .dues ≡ dueOf h t (rh .group) false 1 (rh .at) 0 ++ dueOf h t (ph .group) false 1 (ph .at) 0
+      → opening h t .dues ≡ dueOf h t (rh .group) false 1 (rh .at) ++ dueOf h t (ph .group) false 1 (ph .at)
   unfolding opening
   opening-dues rh ph e f = rw (e, f) refl
 
   pub closing-dues : (s : Pos) (pf rf : Start) (r : Pos) → pf ≡ startAt h t (h .ft) 5 → rf ≡ startAt h t (footEnd h t) 6 → r ≡ closing h t s .to
-      → closing h t s .dues ≡ dueOf h t (pf .group) true (s .page) (pf .at) 0 ++ dueOf h t (rf .group) true (r .page) (rf .at) 0
+      → closing h t s .dues ≡ dueOf h t (pf .group) true (s .page) (pf .at) ++ dueOf h t (rf .group) true (r .page) (rf .at)
   unfolding closing
   closing-dues s pf rf r e f g = rw (e, f, g) refl

@@ -19,22 +19,21 @@ use Rattle.plan.specs.Plan.{turns}
 use Rattle.layout.specs.declared.Pos.{Pos}
 use Rattle.layout.specs.declared.Placed.{Placed}
 
--- a group due: whether it reads the kept record, its page and first line, and the page changes made for it
+-- a group due: whether it reads the kept record, its page and its first line
 pub record Due : Type 0 where
   pub group : ℕ
   pub fromKept : Bool
   pub page : ℕ
   pub at : ℕ
-  pub turned : ℕ
 
 pub record Laid : Type 0 where
   pub dues : List Due
   pub to : Pos
 
 -- a group without lines, or that is not there, is never due
-unfoldable pub dueOf : Head → List ℕ → ℕ → Bool → ℕ → ℕ → ℕ → List Due
-dueOf h t g fromKept page at turned =
-    cond (present h t g) (record { group = g; fromKept = fromKept; page = page; at = at; turned = turned } ∷ []) []
+unfoldable pub dueOf : Head → List ℕ → ℕ → Bool → ℕ → ℕ → List Due
+dueOf h t g fromKept page at =
+    cond (present h t g) (record { group = g; fromKept = fromKept; page = page; at = at } ∷ []) []
 
 abbrev pub reportHeading : Head → List ℕ → ℕ
 reportHeading h t = theGroup h t typeRH 0
@@ -51,8 +50,8 @@ reportFooting h t = theGroup h t typeRF 0
 -- "A page change prints PF, adds 1 to page, .. prints PH."; "A PH or PF printed for a group reads as that group does."
 unfoldable pub pageChange : Head → List ℕ → Bool → ℕ → List Due
 pageChange h t fromKept page =
-    dueOf h t (pageFooting h t) fromKept page (startFrom h t (h .ft) (pageFooting h t)) 0
-    ++ dueOf h t (pageHeading h t) fromKept (page + 1) (startFrom h t (aboveHead h) (pageHeading h t)) 0
+    dueOf h t (pageFooting h t) fromKept page (startFrom h t (h .ft) (pageFooting h t))
+    ++ dueOf h t (pageHeading h t) fromKept (page + 1) (startFrom h t (aboveHead h) (pageHeading h t))
 
 -- n page changes
 unfoldable pub pageChanges : Head → List ℕ → Bool → ℕ → ℕ → List Due
@@ -86,7 +85,7 @@ unfoldable pub placeGroup : Head → List ℕ → Turn → Pos → Laid
 placeGroup h t d s = record {
   dues =
       pageChanges h t (d .«from_kept») (placed h t d s .changes) (s .page)
-      ++ dueOf h t (d .group) (d .«from_kept») (s .page + placed h t d s .changes) (placed h t d s .at) (placed h t d s .changes);
+      ++ dueOf h t (d .group) (d .«from_kept») (s .page + placed h t d s .changes) (placed h t d s .at);
   to = placed h t d s .to;
 }
 
@@ -110,7 +109,7 @@ phAt h t = startFrom h t (headEnd h t) (pageHeading h t)
 
 unfoldable pub opening : Head → List ℕ → Laid
 opening h t = record {
-  dues = dueOf h t (reportHeading h t) false 1 (rhAt h t) 0 ++ dueOf h t (pageHeading h t) false 1 (phAt h t) 0;
+  dues = dueOf h t (reportHeading h t) false 1 (rhAt h t) ++ dueOf h t (pageHeading h t) false 1 (phAt h t);
   to = record {
     page = 1;
     spot = record { line = lineAfter h t (pageHeading h t) (phAt h t) (lineAfter h t (reportHeading h t) (rhAt h t) 0); seen = false; saved = 0 };
@@ -143,8 +142,8 @@ footingPage h t s = cond (ownPage h t) (onOwnPage (afterFooting h t s)) (afterFo
 unfoldable pub closing : Head → List ℕ → Pos → Laid
 closing h t s = record {
   dues =
-      dueOf h t (pageFooting h t) true (s .page) (pfAt h t) 0
-      ++ dueOf h t (reportFooting h t) true (footingPage h t s .page) (rfAt h t) 0;
+      dueOf h t (pageFooting h t) true (s .page) (pfAt h t)
+      ++ dueOf h t (reportFooting h t) true (footingPage h t s .page) (rfAt h t);
   to = record {
     page = footingPage h t s .page;
     spot = record {

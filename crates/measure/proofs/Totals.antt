@@ -31,9 +31,9 @@ module _ (h : Head) (t : List ℕ) where
   due-lines true u = omega arith
   due-lines false u = refl
 
-  pub total-due : (g : ℕ) (fromKept : Bool) (page at turned : ℕ) → lineTotal h t (dueOf h t g fromKept page at turned) ≡ linesDue h t g
+  pub total-due : (g : ℕ) (fromKept : Bool) (page at : ℕ) → lineTotal h t (dueOf h t g fromKept page at) ≡ linesDue h t g
   unfolding dueOf
-  total-due g fromKept page at turned = due-lines (present h t g) _
+  total-due g fromKept page at = due-lines (present h t g) _
 
   pub total-changes : (fromKept : Bool) (n page : ℕ) → lineTotal h t (pageChanges h t fromKept n page) ≡ n * pairLines h t 5 1
   unfolding pageChanges pageChange lineTotal

@@ -53,13 +53,13 @@ module _ (h : Head) (t : List ℕ) (r : ℕ) (fits : PageFits h t) where
       all-append (TurnOk h t r fits) (footings h t (p .level) (p .feet)) (headings h t (p .level) (p .heads) ++ (detail (p .detail) ∷ [])) (feet-ok (p .level) (p .feet))
       (all-append (TurnOk h t r fits) (headings h t (p .level) (p .heads)) (detail (p .detail) ∷ []) (heads-ok (p .level) (p .heads)) (λ q. let e = k q in (omega (arith, e), omega (arith, e)), tt))
 
-  absent : (g page at e : ℕ) (kept : Bool) (lo : ℕ) → present h t g ≡ false → lo ≤ rank r page e → Sound h t r lo (rank r page (lineAfter h t g at e)) (dueOf h t g kept page at 0)
+  absent : (g page at e : ℕ) (kept : Bool) (lo : ℕ) → present h t g ≡ false → lo ≤ rank r page e → Sound h t r lo (rank r page (lineAfter h t g at e)) (dueOf h t g kept page at)
   unfolding dueOf
   absent g page at e kept lo p l = rw p (sound-none h t r lo (rank r page e) l)
 
   -- a heading or footing with the very line that it leaves
   exact : (g page at e : ℕ) (kept : Bool) (lo a b : ℕ) → (present h t g ≡ true → (a ≤ at) × (at + span h t g ≤ b)) → lo < rank r page a → lo ≤ rank r page e →
-      (present h t g ≡ true → (partFrom h t g ≤ a) × (b ≤ partTo h t g)) → Sound h t r lo (rank r page (lineAfter h t g at e)) (dueOf h t g kept page at 0)
+      (present h t g ≡ true → (partFrom h t g ≤ a) × (b ≤ partTo h t g)) → Sound h t r lo (rank r page (lineAfter h t g at e)) (dueOf h t g kept page at)
   exact g page at e kept lo a b w c l q =
       by-test (present h t g)
       (λ p. rw p (heading-sound h t r fits g page at kept lo (rank r page (at + span h t g)) a (at + span h t g) (λ p'. (w p' .0, omega arith)) c (omega (arith, w p .0)) (omega arith) (λ p'. (q p' .0, omega (arith, q p' .1, w p' .1)))))
@@ -93,7 +93,7 @@ module _ (h : Head) (t : List ℕ) (r : ℕ) (fits : PageFits h t) where
       let k : y ≤ h .fd - 1 = after-le ph (phAt h t) x (h .fd - 1) (λ p. omega (arith, fits .phStands p .1)) n in
       record {
         sound =
-            sound-append h t r (rankAt r s) (rank r 1 x) (rank r 1 y) (dueOf h t rh false 1 (rhAt h t) 0) (dueOf h t ph false 1 (phAt h t) 0)
+            sound-append h t r (rankAt r s) (rank r 1 x) (rank r 1 y) (dueOf h t rh false 1 (rhAt h t)) (dueOf h t ph false 1 (phAt h t))
             (exact rh 1 (rhAt h t) 0 false (rankAt r s) (h .top) (h .fd - 1) (λ p. let z = fits .rhStands p in (z .0, omega (arith, z .1))) (omega (arith, fits .top1)) (omega arith)
             (λ p. let z = report-heading-part h t rh (type-is h t 0 0 p) in (omega (arith, z .0), omega (arith, z .1))))
             (exact ph 1 (phAt h t) x false (rank r 1 x) (headEnd h t + 1) (h .fd - 1) (λ p. let z = fits .phStands p in (omega (arith, z .0), omega (arith, z .1))) (omega (arith, m)) (omega arith)
@@ -134,19 +134,19 @@ module _ (h : Head) (t : List ℕ) (r : ℕ) (fits : PageFits h t) where
     end-ft : h .ft ≤ footEnd h t
     end-ft = rw foot-end (after-ge (pageFooting h t) (pfAt h t) (h .ft) (h .ft) (λ p. omega (arith, fits .pfStands p .0)) (omega arith))
 
-    pf-closes : Sound h t r (rankAt r s) (rank r (s .page) foot) (dueOf h t (pageFooting h t) true (s .page) (pfAt h t) 0)
+    pf-closes : Sound h t r (rankAt r s) (rank r (s .page) foot) (dueOf h t (pageFooting h t) true (s .page) (pfAt h t))
     pf-closes =
         exact (pageFooting h t) (s .page) (pfAt h t) (s .spot .line) true (rankAt r s) (h .ft + 1) (h .page)
         (λ p. let z = fits .pfStands p in (omega (arith, z .0), z .1)) (omega (arith, line-in)) (omega arith)
         (λ p. let z = footing-part h t (pageFooting h t) (type-is h t 5 0 p) in (omega (arith, z .0), omega (arith, z .1)))
 
-    own-closes : ownPage h t ≡ true → Sound h t r (rank r (s .page) foot) (rank r (s .page + 1) (lineAfter h t (reportFooting h t) (rfAt h t) 0)) (dueOf h t (reportFooting h t) true (s .page + 1) (rfAt h t) 0)
+    own-closes : ownPage h t ≡ true → Sound h t r (rank r (s .page) foot) (rank r (s .page + 1) (lineAfter h t (reportFooting h t) (rfAt h t) 0)) (dueOf h t (reportFooting h t) true (s .page + 1) (rfAt h t))
     own-closes e =
         exact (reportFooting h t) (s .page + 1) (rfAt h t) 0 true (rank r (s .page) foot) (h .top) (h .page)
         (λ p. (fits .rfOwn p e, fits .rfEnds p)) (omega (arith, foot-page, fits .page999, fits .top1)) (omega (arith, foot-page, fits .page999))
         (λ p. let z = rf-part true e (type-is h t 6 0 p) in (omega (arith, z .0), omega (arith, z .1)))
 
-    below-closes : ownPage h t ≡ false → Sound h t r (rank r (s .page) foot) (rank r (s .page) (lineAfter h t (reportFooting h t) (rfAt h t) foot)) (dueOf h t (reportFooting h t) true (s .page) (rfAt h t) 0)
+    below-closes : ownPage h t ≡ false → Sound h t r (rank r (s .page) foot) (rank r (s .page) (lineAfter h t (reportFooting h t) (rfAt h t) foot)) (dueOf h t (reportFooting h t) true (s .page) (rfAt h t))
     below-closes e =
         exact (reportFooting h t) (s .page) (rfAt h t) foot true (rank r (s .page) foot) (footEnd h t + 1) (h .page)
         (λ p. (omega (arith, fits .rfBelow p e), fits .rfEnds p)) (omega (arith, foot-end-le)) (omega arith)
@@ -160,7 +160,7 @@ module _ (h : Head) (t : List ℕ) (r : ℕ) (fits : PageFits h t) where
     closing-own e =
         rw e
         (record {
-          sound = sound-append h t r (rankAt r s) (rank r (s .page) foot) _ (dueOf h t (pageFooting h t) true (s .page) (pfAt h t) 0) (dueOf h t (reportFooting h t) true (s .page + 1) (rfAt h t) 0) pf-closes (own-closes e);
+          sound = sound-append h t r (rankAt r s) (rank r (s .page) foot) _ (dueOf h t (pageFooting h t) true (s .page) (pfAt h t)) (dueOf h t (reportFooting h t) true (s .page + 1) (rfAt h t)) pf-closes (own-closes e);
           bodyPage = s .page;
           paged = λ u w q f. own-closing h t s u w q f e;
           line = rf-line 0 (omega arith);
@@ -173,7 +173,7 @@ module _ (h : Head) (t : List ℕ) (r : ℕ) (fits : PageFits h t) where
     closing-below e =
         rw e
         (record {
-          sound = sound-append h t r (rankAt r s) (rank r (s .page) foot) _ (dueOf h t (pageFooting h t) true (s .page) (pfAt h t) 0) (dueOf h t (reportFooting h t) true (s .page) (rfAt h t) 0) pf-closes (below-closes e);
+          sound = sound-append h t r (rankAt r s) (rank r (s .page) foot) _ (dueOf h t (pageFooting h t) true (s .page) (pfAt h t)) (dueOf h t (reportFooting h t) true (s .page) (rfAt h t)) pf-closes (below-closes e);
           bodyPage = s .page;
           paged = below-closing h t s;
           line = rf-line foot foot-page;

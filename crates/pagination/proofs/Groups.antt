@@ -72,18 +72,18 @@ module _ (h : Head) (t : List ℕ) (r : ℕ) where
 
     -- the same for a group that may be absent
     pub heading-sound : (g page at : ℕ) (kept : Bool) (lo hi a b : ℕ) → (present h t g ≡ true → (a ≤ at) × (at + span h t g ≤ b)) → lo < rank r page a → lo ≤ hi → rank r page b ≤ hi →
-        (present h t g ≡ true → (partFrom h t g ≤ a) × (b ≤ partTo h t g)) → Sound h t r lo hi (dueOf h t g kept page at 0)
+        (present h t g ≡ true → (partFrom h t g ≤ a) × (b ≤ partTo h t g)) → Sound h t r lo hi (dueOf h t g kept page at)
     unfolding dueOf
     heading-sound g page at kept lo hi a b w c l d e =
         by-cond (Sound h t r lo hi) (present h t g)
-        (λ p. due-sound (record { group = g; fromKept = kept; page = page; at = at; turned = 0 }) lo hi a b p (w p .0) (w p .1) c d (e p .0) (e p .1))
+        (λ p. due-sound (record { group = g; fromKept = kept; page = page; at = at }) lo hi a b p (w p .0) (w p .1) c d (e p .0) (e p .1))
         (λ p. sound-none lo hi l)
 
-    pub body-sound : (g page at changes : ℕ) (kept : Bool) (lo hi : ℕ) → present h t g ≡ true → lo < rank r page at → rank r page (at + span h t g) ≤ hi →
-        partFrom h t g ≤ at → at + span h t g ≤ partTo h t g → Sound h t r lo hi (dueOf h t g kept page at changes)
+    pub body-sound : (g page at : ℕ) (kept : Bool) (lo hi : ℕ) → present h t g ≡ true → lo < rank r page at → rank r page (at + span h t g) ≤ hi →
+        partFrom h t g ≤ at → at + span h t g ≤ partTo h t g → Sound h t r lo hi (dueOf h t g kept page at)
     unfolding dueOf
-    body-sound g page at changes kept lo hi p c d e f =
-        rw p (due-sound (record { group = g; fromKept = kept; page = page; at = at; turned = changes }) lo hi at (at + span h t g) p (omega arith) (omega arith) c d e f)
+    body-sound g page at kept lo hi p c d e f =
+        rw p (due-sound (record { group = g; fromKept = kept; page = page; at = at }) lo hi at (at + span h t g) p (omega arith) (omega arith) c d e f)
 
 -- the group found by type and level has that type
 pub type-is : (h : Head) (t : List ℕ) (type level : ℕ) → present h t (theGroup h t type level) ≡ true → typeOf h t (theGroup h t type level) ≡ type

@@ -63,7 +63,7 @@ module _ (h : Head) (t : List ℕ) (r : ℕ) (fits : PageFits h t) where
   Okay lo hi dues = Sound h t r lo hi dues
 
   -- PF at the foot of a page, from a line of the body
-  pub pf-sound : (page lo : ℕ) (kept : Bool) → lo ≤ rank r page (h .ft) → Okay lo (rank r page 999) (dueOf h t (pageFooting h t) kept page (startFrom h t (h .ft) (pageFooting h t)) 0)
+  pub pf-sound : (page lo : ℕ) (kept : Bool) → lo ≤ rank r page (h .ft) → Okay lo (rank r page 999) (dueOf h t (pageFooting h t) kept page (startFrom h t (h .ft) (pageFooting h t)))
   pf-sound page lo kept l =
       heading-sound h t r fits (pageFooting h t) page _ kept lo (rank r page 999) (h .ft + 1) (h .page)
       (λ p. let z = fits .pfStands p in (omega (arith, z .0), z .1))
@@ -71,7 +71,7 @@ module _ (h : Head) (t : List ℕ) (r : ℕ) (fits : PageFits h t) where
       (λ p. let z = footing-part h t (pageFooting h t) (type-is h t 5 0 p) in (omega (arith, z .0), omega (arith, z .1)))
 
   -- PH at the head of a later page
-  pub ph-sound : (page : ℕ) (kept : Bool) → Okay (rank r page 999) (rank r (page + 1) (h .fd - 1)) (dueOf h t (pageHeading h t) kept (page + 1) (startFrom h t (aboveHead h) (pageHeading h t)) 0)
+  pub ph-sound : (page : ℕ) (kept : Bool) → Okay (rank r page 999) (rank r (page + 1) (h .fd - 1)) (dueOf h t (pageHeading h t) kept (page + 1) (startFrom h t (aboveHead h) (pageHeading h t)))
   ph-sound page kept =
       heading-sound h t r fits (pageHeading h t) (page + 1) _ kept (rank r page 999) (rank r (page + 1) (h .fd - 1)) (h .top) (h .fd - 1)
       (λ p. let z = fits .phLater p in (z .0, omega (arith, z .1)))
@@ -92,8 +92,8 @@ module _ (h : Head) (t : List ℕ) (r : ℕ) (fits : PageFits h t) where
   changes-sound zero page lo kept l = sound-none h t r lo lo (omega arith)
   changes-sound (suc k) page lo kept l =
       let y = rank r (page + 1) (h .fd - 1) in
-      let pf = dueOf h t (pageFooting h t) kept page (startFrom h t (h .ft) (pageFooting h t)) 0 in
-      let ph = dueOf h t (pageHeading h t) kept (page + 1) (startFrom h t (aboveHead h) (pageHeading h t)) 0 in
+      let pf = dueOf h t (pageFooting h t) kept page (startFrom h t (h .ft) (pageFooting h t)) in
+      let ph = dueOf h t (pageHeading h t) kept (page + 1) (startFrom h t (aboveHead h) (pageHeading h t)) in
       let rest = changes-sound k (page + 1) y kept (omega (arith, fits .fdLd, fits .ldFt)) in
       sound-append h t r lo y (rank r (page + suc k) (h .fd - 1)) (pf ++ ph) (pageChanges h t kept k (page + 1))
       (sound-append h t r lo (rank r page 999) y pf ph (pf-sound page lo kept l) (ph-sound page kept))
@@ -148,10 +148,10 @@ module _ (h : Head) (t : List ℕ) (r : ℕ) (fits : PageFits h t) where
         let m = mark (lands .changes) (s .page) lo in
         let grow : x ≤ followed (h .ft) (nextFor h t d) x (lands .spot .saved) .line = followed-ge (h .ft) (nextFor h t d) x (lands .spot .saved) (omega (arith, i .1, i .2)) in
         let a = changes-sound (lands .changes) (s .page) lo (d .«from_kept») (omega (arith, line-in)) in
-        let b = body-sound h t r fits g c (lands .at) (lands .changes) (d .«from_kept») m (rank r c x) p (mark-under (lands .changes) (s .page) (s .spot .line) (lands .at) lands-up (i .0)) (omega arith) (omega (arith, part .0, i .0)) (omega (arith, part .1, i .1)) in
+        let b = body-sound h t r fits g c (lands .at) (d .«from_kept») m (rank r c x) p (mark-under (lands .changes) (s .page) (s .spot .line) (lands .at) lands-up (i .0)) (omega arith) (omega (arith, part .0, i .0)) (omega (arith, part .1, i .1)) in
         rw p
         (record {
-          sound = sound-wider h t r lo (rank r c x) _ _ (omega (arith, grow)) (sound-append h t r lo m (rank r c x) (pageChanges h t (d .«from_kept») (lands .changes) (s .page)) (dueOf h t g (d .«from_kept») c (lands .at) (lands .changes)) a b);
+          sound = sound-wider h t r lo (rank r c x) _ _ (omega (arith, grow)) (sound-append h t r lo m (rank r c x) (pageChanges h t (d .«from_kept») (lands .changes) (s .page)) (dueOf h t g (d .«from_kept») c (lands .at)) a b);
           paged = λ u w e f. body-walk h t (lands .changes) (d .«from_kept») (s .page) g (lands .at) u w p k (at-most-two (frameOf h t) (bodyOf h t g) (s .spot)) e f;
           running = leaves;
           pages = omega arith;

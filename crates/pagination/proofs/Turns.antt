@@ -74,9 +74,9 @@ module _ (h : Head) (t : List ℕ) where
   not-body g (inl l) = rw (lt-leb 2 (typeOf h t g) (omega arith)) refl
   not-body g (inr l) = rw (le-leb 2 (typeOf h t g) (omega arith), lt-leb (typeOf h t g) 4 (omega arith)) refl
 
-  no-bodies : (g : ℕ) (kept : Bool) (page at n : ℕ) → (present h t g ≡ true → isBody h t g ≡ false) → bodies h t (dueOf h t g kept page at n) ≡ []
+  no-bodies : (g : ℕ) (kept : Bool) (page at : ℕ) → (present h t g ≡ true → isBody h t g ≡ false) → bodies h t (dueOf h t g kept page at) ≡ []
   unfolding dueOf bodies
-  no-bodies g kept page at n b = by-test (present h t g) (λ p. rw (p, b p) refl) (λ p. rw p refl)
+  no-bodies g kept page at b = by-test (present h t g) (λ p. rw (p, b p) refl) (λ p. rw p refl)
 
   pf-body : present h t (pageFooting h t) ≡ true → isBody h t (pageFooting h t) ≡ false
   pf-body p = not-body (pageFooting h t) (inr (let e = type-is h t 5 0 p in omega arith))
@@ -85,7 +85,7 @@ module _ (h : Head) (t : List ℕ) where
   ph-body p = not-body (pageHeading h t) (inl (let e = type-is h t 1 0 p in omega arith))
 
   -- one that stands on the page of the group before it
-  same-page : (g : ℕ) (kept : Bool) (page at : ℕ) (u w : Due) (q : ℕ) → (present h t g ≡ true → isBody h t g ≡ false) → u .page ≡ page → w .page ≡ q → Walk h t u w (dueOf h t g kept page at 0) page q
+  same-page : (g : ℕ) (kept : Bool) (page at : ℕ) (u w : Due) (q : ℕ) → (present h t g ≡ true → isBody h t g ≡ false) → u .page ≡ page → w .page ≡ q → Walk h t u w (dueOf h t g kept page at) page q
   unfolding dueOf bodies lastOf
   same-page g kept page at u w q b e f =
       by-cond (λ us. Walk h t u w us page q) (present h t g)
@@ -140,8 +140,8 @@ module _ (h : Head) (t : List ℕ) where
   change-reach kept p j u l r =
       let at = startFrom h t (h .ft) (pageFooting h t) in
       let to = startFrom h t (aboveHead h) (pageHeading h t) in
-      let pf : Due = record { group = pageFooting h t; fromKept = kept; page = p; at = at; turned = 0 } in
-      let ph : Due = record { group = pageHeading h t; fromKept = kept; page = p + 1; at = to; turned = 0 } in
+      let pf : Due = record { group = pageFooting h t; fromKept = kept; page = p; at = at } in
+      let ph : Due = record { group = pageHeading h t; fromKept = kept; page = p + 1; at = to } in
       by-test (present h t (pageFooting h t))
       (λ f. by-test (present h t (pageHeading h t))
       (λ e. rw (f, e) (record { behind = (reach-behind u pf p j l refl r, (inr (record { up = (omega arith, omega arith); footing = λ q. (refl, refl); heading = λ q. (inl refl, refl) }), tt)); reach = inl refl }))
@@ -167,19 +167,19 @@ module _ (h : Head) (t : List ℕ) where
   unfolding pageChanges pageChange bodies
   no-changes zero kept p = refl
   no-changes (suc k) kept p =
-      let a = dueOf h t (pageFooting h t) kept p (startFrom h t (h .ft) (pageFooting h t)) 0 in
-      let b = dueOf h t (pageHeading h t) kept (p + 1) (startFrom h t (aboveHead h) (pageHeading h t)) 0 in
+      let a = dueOf h t (pageFooting h t) kept p (startFrom h t (h .ft) (pageFooting h t)) in
+      let b = dueOf h t (pageHeading h t) kept (p + 1) (startFrom h t (aboveHead h) (pageHeading h t)) in
       bodies-append (a ++ b) (pageChanges h t kept k (p + 1))
-      ∙ rw (bodies-append a b, no-bodies (pageFooting h t) kept p _ 0 pf-body, no-bodies (pageHeading h t) kept (p + 1) _ 0 ph-body) (no-changes k kept (p + 1))
+      ∙ rw (bodies-append a b, no-bodies (pageFooting h t) kept p _ pf-body, no-bodies (pageHeading h t) kept (p + 1) _ ph-body) (no-changes k kept (p + 1))
 
   -- ---- body groups
   pub body-walk : (k : ℕ) (kept : Bool) (p g at : ℕ) (u w : Due) → present h t g ≡ true → (2 ≤ typeOf h t g) × (typeOf h t g ≤ 4) → k ≤ 2 → u .page ≡ p → w .page ≡ p →
-      Walk h t u w (pageChanges h t kept k p ++ dueOf h t g kept (p + k) at k) (p + k) (p + k)
+      Walk h t u w (pageChanges h t kept k p ++ dueOf h t g kept (p + k) at) (p + k) (p + k)
   unfolding dueOf bodies lastOf
   body-walk k kept p g at u w q y l e f =
       let b : isBody h t g ≡ true = rw (le-leb 2 (typeOf h t g) (y .0), le-leb (typeOf h t g) 4 (y .1)) refl in
       let us = pageChanges h t kept k p in
-      let v : Due = record { group = g; fromKept = kept; page = p + k; at = at; turned = k } in
+      let v : Due = record { group = g; fromKept = kept; page = p + k; at = at } in
       let c = changes-reach k kept p 0 u (omega arith) (inl e) in
       rw q
       (record {
@@ -194,10 +194,10 @@ module _ (h : Head) (t : List ℕ) where
   unfolding opening
   opening-paged s o u w e f =
       let a = same-page (reportHeading h t) false 1 (rhAt h t) u w 1 (λ p. not-body (reportHeading h t) (inl (let z = type-is h t 0 0 p in omega arith))) (e ∙ o) (f ∙ o) in
-      walk-append u w (dueOf h t (reportHeading h t) false 1 (rhAt h t) 0) (dueOf h t (pageHeading h t) false 1 (phAt h t) 0) 1 1 1 1 a
+      walk-append u w (dueOf h t (reportHeading h t) false 1 (rhAt h t)) (dueOf h t (pageHeading h t) false 1 (phAt h t)) 1 1 1 1 a
       (same-page (pageHeading h t) false 1 (phAt h t) _ _ 1 ph-body (a .last) (a .body))
 
-  foot-last : (u : Due) (kept : Bool) (page at : ℕ) → present h t (pageFooting h t) ≡ true → lastOf u (dueOf h t (pageFooting h t) kept page at 0) .group ≡ pageFooting h t
+  foot-last : (u : Due) (kept : Bool) (page at : ℕ) → present h t (pageFooting h t) ≡ true → lastOf u (dueOf h t (pageFooting h t) kept page at) .group ≡ pageFooting h t
   unfolding dueOf lastOf
   foot-last u kept page at p = rw p refl
 
@@ -209,7 +209,7 @@ module _ (h : Head) (t : List ℕ) where
 
   -- RF on a page of its own, behind u
   own-walk : (u w : Due) (p q : ℕ) → ownPage h t ≡ true → u .page ≡ p → (present h t (pageFooting h t) ≡ true → u .group ≡ pageFooting h t) → w .page ≡ q →
-      Walk h t u w (dueOf h t (reportFooting h t) true (p + 1) (rfAt h t) 0) (p + 1) q
+      Walk h t u w (dueOf h t (reportFooting h t) true (p + 1) (rfAt h t)) (p + 1) q
   unfolding dueOf bodies lastOf
   own-walk u w p q o e k f =
       rw (own-present o)
@@ -222,17 +222,17 @@ module _ (h : Head) (t : List ℕ) where
 
   module _ (s : Pos) (u w : Due) (e : u .page ≡ s .page) (f : w .page ≡ s .page) where
     abbrev pf : List Due
-    pf = dueOf h t (pageFooting h t) true (s .page) (pfAt h t) 0
+    pf = dueOf h t (pageFooting h t) true (s .page) (pfAt h t)
 
     pf-walk : Walk h t u w pf (s .page) (s .page)
     pf-walk = same-page (pageFooting h t) true (s .page) (pfAt h t) u w (s .page) pf-body e f
 
-    pub own-closing : ownPage h t ≡ true → Walk h t u w (pf ++ dueOf h t (reportFooting h t) true (s .page + 1) (rfAt h t) 0) (s .page + 1) (s .page)
+    pub own-closing : ownPage h t ≡ true → Walk h t u w (pf ++ dueOf h t (reportFooting h t) true (s .page + 1) (rfAt h t)) (s .page + 1) (s .page)
     own-closing o =
-        walk-append u w pf (dueOf h t (reportFooting h t) true (s .page + 1) (rfAt h t) 0) (s .page) (s .page) (s .page + 1) (s .page) pf-walk
+        walk-append u w pf (dueOf h t (reportFooting h t) true (s .page + 1) (rfAt h t)) (s .page) (s .page) (s .page + 1) (s .page) pf-walk
         (own-walk (lastOf u pf) (lastOf w (bodies h t pf)) (s .page) (s .page) o (pf-walk .last) (foot-last u true (s .page) (pfAt h t)) (pf-walk .body))
 
-    pub below-closing : Walk h t u w (pf ++ dueOf h t (reportFooting h t) true (s .page) (rfAt h t) 0) (s .page) (s .page)
+    pub below-closing : Walk h t u w (pf ++ dueOf h t (reportFooting h t) true (s .page) (rfAt h t)) (s .page) (s .page)
     below-closing =
-        walk-append u w pf (dueOf h t (reportFooting h t) true (s .page) (rfAt h t) 0) (s .page) (s .page) (s .page) (s .page) pf-walk
+        walk-append u w pf (dueOf h t (reportFooting h t) true (s .page) (rfAt h t)) (s .page) (s .page) (s .page) (s .page) pf-walk
         (same-page (reportFooting h t) true (s .page) (rfAt h t) (lastOf u pf) (lastOf w (bodies h t pf)) (s .page) rf-body (pf-walk .last) (pf-walk .body))

@@ -19,7 +19,7 @@ module _ {A : Type 0} where
 
 -- what stands before the first group of a report: no group, on page 1
 abbrev pub noGroup : Head → Due
-noGroup h = record { group = h .groups; fromKept = false; page = 1; at = 0; turned = 0 }
+noGroup h = record { group = h .groups; fromKept = false; page = 1; at = 0 }
 
 -- PH, or RF on a page of its own: "RF on next page: .. no heading prints"
 abbrev pub HeadsPage : Head → List ℕ → Due → Type 0
