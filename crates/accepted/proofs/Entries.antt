@@ -1,18 +1,17 @@
 -- D3, D4, D7 and D8 give the facts of fields, controls, items and counters.
 -- Assumes nothing.
 use Prim.Native.Nat.{ℕ, zero, suc, _+_, _*_, _≤_, _<_}
-use mathlib.Core.Path.{_≡_, refl, sym, ap, _∙_}
-use mathlib.Core.Bool.{Bool, true, false, cond, _&&_, _||_, not, false≢true}
+use mathlib.Core.Path.{_≡_, sym, ap}
+use mathlib.Core.Bool.{Bool, true, false, cond, _&&_, _||_, false≢true}
 use mathlib.Core.List.{List}
 use native.Mathlib.Omega.{arith}
 use lib.Dec.{leb, ltb, eqb}
 use lib.ListN.{length, getD}
-use borrow.Author.Tests.{leb-true, ltb-true, eqb-true, eqb-false, eq-eqb, ne-eqb}
-use Rattle.counts.specs.Below.{allBelow}
+use borrow.Author.Tests.{leb-true, ltb-true, eqb-true}
 use Rattle.ascii.proofs.Laws.{printable-there}
-use Rattle.counts.proofs.Laws.{by-test, and-l, and-r, or-r, all-at}
+use Rattle.counts.proofs.Laws.{by-test, and-l, and-r, all-at}
 use Rattle.tables.specs.declared.Head.{Head}
-use Rattle.tables.specs.Table.{fieldKind, fieldOffset, fieldWidth, control, final, typeOf, firstLine, lineCount, firstItem, itemCount, itemColumn, itemWidth, itemKind, itemIndex, itemDecimals, itemOf, counterGroup, firstAddend, addendCount, addendKind, addendIndex, addendMask}
+use Rattle.tables.specs.Table.{fieldKind, fieldWidth, control, final, firstLine, lineCount, firstItem, itemCount, itemColumn, itemWidth, itemKind, itemIndex, itemOf, firstAddend, addendCount, addendKind}
 use Rattle.lookup.specs.Find.{details}
 use Rattle.fields.specs.Fields.{insideRecord, widthOk, fieldOk, ruleD3}
 use Rattle.fields.specs.Controls.{controlOk, ruleD4}

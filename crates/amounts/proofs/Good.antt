@@ -1,8 +1,8 @@
 -- The sums of every call stay good: in range, 32 of them, and 0 beyond the counters.
 -- Assumes nothing.
 use Prim.Native.Nat.{ℕ, _≤_, _<_}
-use mathlib.Core.Path.{_≡_, refl, sym, _∙_}
-use mathlib.Core.Bool.{Bool, true, false, true≢false}
+use mathlib.Core.Path.{_≡_, refl, _∙_}
+use mathlib.Core.Bool.{Bool, true, false}
 use mathlib.Core.List.{List}
 use native.Mathlib.Omega.{arith}
 use lib.IntN.{ℤ, pos, _+ℤ_}
@@ -78,8 +78,3 @@ module _ (h : Head) (t : List ℕ) (few : h .counters ≤ 32) (old : List ℤ) (
   pub last-good : GoodTotals (h .counters) (totalsLast h t old)
   unfolding totalsLast
   last-good = old-if-refused-good (search (footed, back))
-
--- where an addition is refused, the old sums are back
-pub refused-sums : (old : List ℤ) (r : Totals) → oldIfRefused old r .ok ≡ false → oldIfRefused old r .sums ≡ old
-unfolding oldIfRefused
-refused-sums old r = by-cond (λ (s : Totals). s .ok ≡ false → s .sums ≡ old) (r .ok) (λ o f. absurd (true≢false (sym o ∙ f))) (λ o f. refl)

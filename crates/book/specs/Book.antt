@@ -1,7 +1,7 @@
 -- Demand 3's book: "Its book sees the description, the calls with d and record, and which were accepted, but no state and no output".
 use Prim.Native.Nat.{ℕ, suc}
 use mathlib.Core.List.{List, [], _∷_, _++_}
-use mathlib.Core.Bool.{Bool, true, false, cond}
+use mathlib.Core.Bool.{Bool, false, cond}
 use mathlib.Core.Option.{Option, none, some}
 use lib.Dec.{eqb}
 use Rattle.tables.specs.declared.Head.{Head}

@@ -11,7 +11,6 @@ use Rattle.layout.specs.declared.Start.{Start}
 use Rattle.layout.specs.Layout.{Due, nothing}
 use Rattle.layout.specs.Facts.{Starts}
 use Rattle.call_text.specs.Bytes.{Reading, dueBytes}
-use Rattle.call_text.specs.declared.Cursor.{Cursor}
 use Rattle.call_text.specs.Facts.{Printable, Room, StartIn, Printed}
 use Rattle.call_text.proofs.Bytes.{bytes-append}
 

@@ -1,8 +1,8 @@
 -- From an accepted description, a state that keeps its rules and a row that passed its tests, to what each part of the work asks.
 -- Assumes nothing.
-use Prim.Native.Nat.{ℕ, zero, suc, _+_, _≤_, _<_}
-use mathlib.Core.Path.{_≡_, refl, sym, ap, _∙_}
-use mathlib.Core.Bool.{Bool, true, false, not}
+use Prim.Native.Nat.{ℕ, zero, suc, _≤_, _<_}
+use mathlib.Core.Path.{_≡_, refl, ap}
+use mathlib.Core.Bool.{Bool, true, false}
 use mathlib.Core.List.{List}
 use native.Mathlib.Omega.{arith}
 use borrow.Author.Tests.{ltb-true, ltb-false}
@@ -12,14 +12,12 @@ use Rattle.counts.proofs.Laws.{by-test}
 use lib.IntN.{ℤ, pos}
 use lib.ListN.{length, getD, replicate, length-replicate, List·getD-eq-default}
 use Rattle.tables.specs.declared.Head.{Head}
-use Rattle.lookup.specs.Find.{theDetail, details}
-use Rattle.rows.specs.Facts.{FieldsIn, Formed, Whole, Comparable}
+use Rattle.rows.specs.Facts.{Formed, Comparable}
 use Rattle.rows.specs.Fields.{formed}
 use Rattle.sums.specs.Sums.{sumsOk}
-use Rattle.sums.specs.declared.Totals.{Totals}
-use Rattle.sums.specs.Facts.{Adding, CountersIn}
+use Rattle.sums.specs.Facts.{Adding}
 use Rattle.amounts.specs.Totals.{fresh, totalsFirst, totalsLater, totalsLast}
-use Rattle.amounts.proofs.Good.{GoodSums, GoodTotals, first-good, later-good, last-good}
+use Rattle.amounts.proofs.Good.{GoodSums, first-good, later-good, last-good}
 use Rattle.place.specs.Place.{lastPage}
 use Rattle.printed.specs.Printed.{noPrefix}
 use Rattle.printed.proofs.Laws.{no-prefix-short}

@@ -6,7 +6,7 @@ use mathlib.Core.List.{List}
 use native.Mathlib.Omega.{arith}
 use borrow.Author.Tests.{eqb-true}
 use lib.Dec.{eqb}
-use lib.IntN.{ℤ, pos}
+use lib.IntN.{pos}
 use lib.ListN.{length, getD, replicate, length-take, length-drop, length-replicate}
 use Rattle.counts.proofs.Laws.{by-cond}
 use Rattle.number.specs.Value.{numberOf}
@@ -19,7 +19,7 @@ use Rattle.rows.specs.Facts.{Formed}
 use Rattle.rows.proofs.Fields.{field-formed}
 use Rattle.compose.specs.declared.View.{View}
 use Rattle.compose.specs.Items.{Inputs, applied, literalText, fieldText, counterText, sumText, sourceText, hidden, itemText}
-use Rattle.compose.specs.Facts.{ItemIn, Sized, Readable, Fits, ItemReady}
+use Rattle.compose.specs.Facts.{ItemIn, Sized, Readable, ItemReady}
 
 -- the record that applies is well formed
 applied-formed : {h : Head} {t : List ℕ} {inp : Inputs} → Readable h t inp → (fromKept : Bool) → Formed h t (cond fromKept (inp .kept) (inp .row))

@@ -1,6 +1,5 @@
 // The thin program's arguments and files, and what it tells on standard error: usage, failures, refusals in words.
 ghost use Prim.Native.Nat.{_≤_};
-ghost use mathlib.Core.Path.{_≡_};
 ghost use lib.ListN.{length};
 ghost use Rattle.io.specs.Counts.{Counts};
 use libc::STDERR_FILENO;

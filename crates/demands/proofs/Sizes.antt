@@ -1,7 +1,7 @@
 -- The sizes that a state has stay through every call: eight flags and a kept record of 256 bytes.
 -- Assumes nothing.
 use Prim.Native.Nat.{ℕ, _≤_}
-use mathlib.Core.Path.{_≡_, refl, _∙_}
+use mathlib.Core.Path.{_≡_, _∙_}
 use mathlib.Core.Bool.{Bool, false}
 use mathlib.Core.List.{List}
 use native.Mathlib.Omega.{arith}
@@ -16,7 +16,7 @@ use Rattle.accepted.proofs.Accept.{accepted}
 use Rattle.pages.specs.Outcome.{pastLast, tooShort, outcome}
 use Rattle.state.specs.State.{started}
 use Rattle.state.specs.Kept.{flagsSet}
-use Rattle.state.proofs.Kept.{length-padded}
+use Rattle.state.proofs.Kept.{length-flagsSet, length-padded}
 use Rattle.state.specs.declared.State.{State}
 use Rattle.state.specs.State.{freshAt}
 use Rattle.calls.specs.Result.{Work, settled}
@@ -45,15 +45,11 @@ module _ (d : List ℕ) (s : State) (out : List ℕ) (z : Lengths s) where
     cleared-long : (flags : List Bool) → length flags ≡ 8 → length (cleared h t i flags) ≡ 8
     cleared-long flags g = by-cond (λ (l : List Bool). length l ≡ 8) (eqb (lineCount h t (theDetail h t i)) 0) (λ e. g) (λ e. length-set flags i false ∙ g)
 
-    set-long : length (flagsSet (details h t)) ≡ 8
-    unfolding flagsSet
-    set-long = refl
-
     row-flags : length (rowWork h t lits s i row .flags) ≡ 8
     unfolding firstWork laterWork
     row-flags =
-        by-test (eqb (s .phase) started) (λ e. rw e (cleared-long (flagsSet (details h t)) set-long))
-        (λ e. rw e (cleared-long _ (by-cond (λ (l : List Bool). length l ≡ 8) (breaks h _) (λ b. set-long) (λ b. z .flags))))
+        by-test (eqb (s .phase) started) (λ e. rw e (cleared-long (flagsSet (details h t)) (length-flagsSet (details h t))))
+        (λ e. rw e (cleared-long _ (by-cond (λ (l : List Bool). length l ≡ 8) (breaks h _) (λ b. (length-flagsSet (details h t))) (λ b. z .flags))))
 
     row-kept : length row ≤ 256 → length (rowWork h t lits s i row .kept) ≡ 256
     unfolding firstWork laterWork

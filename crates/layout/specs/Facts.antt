@@ -7,8 +7,6 @@ use Rattle.tables.specs.declared.Head.{Head}
 use Rattle.lookup.specs.Find.{theGroup}
 use Rattle.fits.specs.Starts.{startFrom}
 use Rattle.place.specs.Place.{lastPage}
-use Rattle.place.specs.Rules.{Described, NextIn}
-use Rattle.shape.specs.Shape.{bodyOf, nextOf, frameOf}
 use Rattle.shape.specs.Facts.{Small}
 use Rattle.plan.specs.declared.Turn.{Turn}
 use Rattle.plan.specs.declared.Plan.{Plan}
@@ -36,8 +34,3 @@ pub record Ready (h : Head) (t : List ℕ) (d : Turn) (s : Pos) : Type 0 where
   pub small : Small h t
   pub group : d .group ≤ h .groups
   pub page : s .page ≤ 1000100
-
--- what D5 and D6 say of a body group: "the group must fit", and its next group
-pub record Fitting (h : Head) (t : List ℕ) (g : ℕ) : Type 0 where
-  pub described : Described (frameOf h t) (bodyOf h t g)
-  pub next : NextIn (frameOf h t) (nextOf h t g)

@@ -10,7 +10,7 @@ use native.Mathlib.Omega.{arith}
 use borrow.Author.Tests.{ltb-true, eqb-true}
 use lib.Dec.{ltb, eqb}
 use Rattle.counts.specs.Below.{sumBelow, firstBelow}
-use Rattle.counts.proofs.Laws.{by-cond, and-l, and-r, sum-part, first-at}
+use Rattle.counts.proofs.Laws.{by-cond, and-l, sum-part, first-at}
 use Rattle.tables.specs.declared.Head.{Head}
 use Rattle.tables.specs.Table.{typeOf, levelOf, lineCount}
 use Rattle.lookup.specs.Find.{isAt, theGroup}
@@ -43,9 +43,6 @@ module _ (h : Head) (t : List ℕ) (r : ℕ) where
   sound-wider a b c xs l p = record { climb = climb-wider (spotsOf h t r xs) a b c (p .climb) l; parts = p .parts }
 
   module _ (fits : PageFits h t) where
-    has-lines : (g : ℕ) → present h t g ≡ true → 0 < lineCount h t g
-    has-lines g p = ltb-true _ _ (and-r (ltb g (h .groups)) (ltb 0 (lineCount h t g)) p)
-
     -- line k of a group lies between its first line and its last
     line-le : (g at k : ℕ) → k < lineCount h t g → lineNumber h t g at k ≤ at + span h t g
     unfolding span

@@ -1,7 +1,6 @@
--- The turns of a plan as a list and one by one, and what D1 says of each plan and its turns.
+-- The turns of a plan as a list and one by one, and the groups of its turns.
 --     turns-at, turns-step, turns-end   turn k of the list is `turnAt`, and a pass over the list by its number
 --     turn-group                        the group of a turn is a group, or the number of groups
---     planned-first, -later, -last      a call's plan under D1
 -- Assumes nothing.
 use mathlib.Core.Path.{_≡_, refl, sym, ap, _∙_}
 use mathlib.Core.Bool.{Bool, true, false, cond}
@@ -19,7 +18,7 @@ use Rattle.tables.specs.declared.Head.{Head}
 use Rattle.lookup.specs.Find.{isAt, theGroup}
 use Rattle.plan.specs.declared.Turn.{Turn}
 use Rattle.plan.specs.declared.Plan.{Plan}
-use Rattle.plan.specs.Plan.{footing, heading, detail, footings, headings, turns, firstPlan, laterPlan, lastPlan, turnCount, turnAt}
+use Rattle.plan.specs.Plan.{footing, heading, detail, footings, headings, turns, turnCount, turnAt}
 use Rattle.plan.specs.Facts.{Planned}
 
 module _ (h : Head) (t : List ℕ) where
@@ -100,13 +99,3 @@ module _ (h : Head) (t : List ℕ) where
         by-cond (λ (d : Turn). d .group ≤ h .groups) (ltb k (p .feet))
         (λ e. group-le 4 _)
         (λ e. by-cond (λ (d : Turn). d .group ≤ h .groups) (ltb k (p .feet + p .heads)) (λ e. group-le 2 _) (λ e. f .detail))
-
-module _ (h : Head) (c : h .controls ≤ 8) where
-  pub planned-first : (g : ℕ) → g ≤ h .groups → Planned h (firstPlan h g)
-  planned-first g l = record { level = omega arith; feet = omega arith; heads = c; detail = l }
-
-  pub planned-later : (b g : ℕ) → b ≤ h .controls → g ≤ h .groups → Planned h (laterPlan h b g)
-  planned-later b g e l = record { level = omega arith; feet = omega arith; heads = omega arith; detail = l }
-
-  pub planned-last : Planned h (lastPlan h)
-  planned-last = record { level = omega arith; feet = c; heads = omega arith; detail = omega arith }

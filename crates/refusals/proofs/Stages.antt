@@ -1,13 +1,13 @@
 -- The stages of the tests, by what each finds, and what passing them says.
 -- Assumes nothing.
-use Prim.Native.Nat.{ℕ, _≤_, _<_}
-use mathlib.Core.Path.{_≡_, refl, sym, ap, _∙_}
+use Prim.Native.Nat.{ℕ}
+use mathlib.Core.Path.{_≡_, refl, sym, _∙_}
 use mathlib.Core.Bool.{Bool, true, false, cond}
 use mathlib.Core.List.{List}
 use native.Mathlib.Omega.{arith}
 use lib.Dec.{ltb, eqb}
 use lib.ListN.{length}
-use borrow.Author.Tests.{lt-ltb, le-ltb, eq-eqb, ne-eqb, ltb-true, eqb-true, eqb-false, not-false}
+use borrow.Author.Tests.{ltb-true, eqb-true, eqb-false, not-false}
 use Rattle.tables.specs.declared.Head.{Head}
 use Rattle.lookup.specs.Find.{theDetail}
 use Rattle.rows.specs.Fields.{formed, firstMalformed}
@@ -20,7 +20,7 @@ use Rattle.refusals.specs.declared.Verdict.{Verdict}
 use Rattle.refusals.specs.declared.Verdict.the-variants.{State, Phase, Detail, Length, Field}
 use Rattle.refusals.specs.declared.Tried.{Tried}
 use Rattle.refusals.specs.declared.Tried.the-variants.{Passed, Refused}
-use Rattle.refusals.specs.Stages.{then, startTried, begunTried, detailTried, recordTried, rowTried}
+use Rattle.refusals.specs.Stages.{then, begunTried, detailTried, recordTried, rowTried}
 use Rattle.refusals.specs.Facts.{Begun, RowIn}
 
 -- ---- what passing says

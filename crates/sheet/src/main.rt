@@ -30,6 +30,14 @@ struct Sheet {
     state: State,
 }
 
+// The record file: its descriptor, the length of a record, how much of it is read at a time, and whether to tell how far it is.
+struct Records {
+    fd: i32,
+    size: usize,
+    part: usize,
+    progress: bool,
+}
+
 // ---- the rows
 // A refused row of so many bytes ends the sheet; what was accepted before it stands.
 fn end_at(d: &[u8], bytes: usize, v: Verdict, s: Sheet, out: &[u8]) -> Sheet
@@ -137,23 +145,29 @@ fn after_part(
 // What a verdict on the records in hand asks for.
 fn settle(
     d: &[u8],
-    fd: i32,
     path: &[u8],
-    size: usize,
-    part: usize,
-    progress: bool,
+    records: Records,
     v: Verdict,
     s: Sheet,
     buffer: &mut [u8],
     out: &[u8],
 ) -> Sheet
-    requires { ⌜ (part ≤ length (now buffer)) × (s .waiting ≤ length (now out)) × (s .from ≤ s .to) × (s .to ≤ length (now buffer)) ⌝ }
+    requires { ⌜ (records .part ≤ length (now buffer)) × (s .waiting ≤ length (now out)) × (s .from ≤ s .to) × (s .to ≤ length (now buffer)) ⌝ }
     ensures { λ r. ⌜ (r .waiting ≤ s .waiting) × (r .from ≤ r .to) × (r .to ≤ length (now (buffer .entry))) ⌝ }
 {
     match v {
-        Verdict::Accepted => after_part(d, fd, path, part, progress, s, buffer, out),
-        Verdict::Room => make_room(d, size, v, s, out),
-        _ => end_at(d, size, v, s, out),
+        Verdict::Accepted => after_part(
+            d,
+            records.fd,
+            path,
+            records.part,
+            records.progress,
+            s,
+            buffer,
+            out,
+        ),
+        Verdict::Room => make_room(d, records.size, v, s, out),
+        _ => end_at(d, records.size, v, s, out),
     }
 }
 
@@ -189,23 +203,20 @@ fn advanced(s: Sheet, run: Run, size: usize, room: usize) -> Sheet
 // One turn: the records in hand, then what their verdict asks for.
 fn turn(
     d: &[u8],
-    fd: i32,
     path: &[u8],
-    size: usize,
-    part: usize,
-    progress: bool,
+    records: Records,
     s: Sheet,
     buffer: &mut [u8],
     out: &mut [u8],
 ) -> Sheet
-    requires { ⌜ (1 ≤ size) × (part ≤ length (now buffer)) × (s .waiting ≤ length (now out)) × (s .from ≤ s .to) × (s .to ≤ length (now buffer)) ⌝ }
+    requires { ⌜ (1 ≤ records .size) × (records .part ≤ length (now buffer)) × (s .waiting ≤ length (now out)) × (s .from ≤ s .to) × (s .to ≤ length (now buffer)) ⌝ }
     ensures { λ r. ⌜ (r .waiting ≤ length (now (out .entry))) × (r .from ≤ r .to) × (r .to ≤ length (now (buffer .entry))) ⌝ }
 {
     let room = out.len();
-    let run = print_rows(d, size, s, buffer, out);
+    let run = print_rows(d, records.size, s, buffer, out);
     let v = run.verdict;
-    let after = advanced(s, run, size, room);
-    settle(d, fd, path, size, part, progress, v, after, buffer, out)
+    let after = advanced(s, run, records.size, room);
+    settle(d, path, records, v, after, buffer, out)
 }
 
 // Prints every record of an open file.
@@ -227,7 +238,13 @@ fn print_file(
     let mut turns = u64::MAX;
     while turns > 0 && sheet.more {
         turns -= 1;
-        let next = turn(d, fd, path, size, part, progress, sheet, buffer, out);
+        let records = Records {
+            fd,
+            size,
+            part,
+            progress,
+        };
+        let next = turn(d, path, records, sheet, buffer, out);
         sheet = next;
     }
     sheet

@@ -15,19 +15,12 @@ module _ (old : List ℕ) (at : ℕ) (xs : List ℕ) where
   unfolding splice
   length-splice h = simp (length-append, length-take, length-drop) (omega arith)
 
-  pub take-splice : at ≤ length old → take at (splice old at xs) ≡ take at old
-  unfolding splice
-  take-splice h = take-at (take at old) _ at (length-take-le at old h)
-
   pub from-splice : at ≤ length old → drop at (splice old at xs) ≡ xs ++ drop (at + length xs) old
   unfolding splice
   from-splice h = drop-at (take at old) _ at (length-take-le at old h)
 
   pub drop-splice : at ≤ length old → drop (at + length xs) (splice old at xs) ≡ drop (at + length xs) old
   drop-splice h = sym (drop-drop (length xs) at _) ∙ ap (drop (length xs)) (from-splice h) ∙ drop-at xs _ (length xs) refl
-
-  pub read-splice : at ≤ length old → take (length xs) (drop at (splice old at xs)) ≡ xs
-  read-splice h = ap (take (length xs)) (from-splice h) ∙ take-at xs _ (length xs) refl
 
   upto-splice : at ≤ length old → take (at + length xs) (splice old at xs) ≡ take at old ++ xs
   unfolding splice

@@ -4,12 +4,11 @@ use Prim.Native.Nat.{ℕ, zero, suc, _+_, _-_, _≤_, _<_}
 use mathlib.Core.Path.{_≡_, refl, sym, ap, _∙_}
 use mathlib.Core.Bool.{Bool, true, false}
 use mathlib.Core.List.{List, _++_}
-use mathlib.Core.Logic.{⊎-elim}
 use native.Mathlib.Nat.{zero-add}
 use native.Mathlib.Omega.{arith}
 use borrow.Author.Tests.{le-ltb}
 use lib.Dec.{ltb}
-use lib.ListN.{length, getD, take, drop, set, replicate, length-drop, length-replicate, getD-replicate}
+use lib.ListN.{length, getD, take, drop, replicate, length-drop, length-replicate, getD-replicate}
 use lib.Seq.{take-append-le, drop-append-le, getD-append-add, getD-drop}
 use Rattle.counts.specs.Below.{allBelow}
 use Rattle.splice.specs.Splice.{splice}
@@ -19,7 +18,6 @@ use Rattle.tables.specs.Table.{fieldOffset, fieldWidth, control}
 use Rattle.rows.specs.Fields.{fieldPart, wellFormed, formed}
 use Rattle.rows.specs.Breaks.{SameControls}
 use Rattle.rows.specs.Facts.{FieldsIn, ControlsIn, Formed}
-use Rattle.sums.proofs.Range.{getD-set}
 use Rattle.state.specs.Kept.{paddedRow, flagsSet}
 
 -- a test of every index goes by its test below the bound alone
@@ -101,7 +99,3 @@ flagsSet-at n (suc (suc (suc (suc (suc (suc (suc (suc i)))))))) l = absurd (omeg
 -- flags beyond the details are clear
 pub flagsSet-beyond : (n i : ℕ) → n ≤ i → i < 8 → getD (flagsSet n) i false ≡ false
 flagsSet-beyond n i l m = flagsSet-at n i m ∙ le-ltb i n l
-
--- and stay so when a flag is cleared
-pub clear-flag : (flags : List Bool) (d i : ℕ) → getD flags i false ≡ false → getD (set flags d false) i false ≡ false
-clear-flag flags d i e = ⊎-elim (λ q. q) (λ q. q ∙ e) (getD-set flags d i false false)

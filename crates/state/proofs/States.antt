@@ -21,9 +21,8 @@ use Rattle.lookup.specs.Find.{details}
 use Rattle.rows.specs.Fields.{formed}
 use Rattle.rows.specs.Values.{sameNumber, number}
 use Rattle.rows.specs.Facts.{Formed}
-use Rattle.rows.proofs.Searches.{all-intro}
 use Rattle.rows.proofs.Values.{same-sound, same-complete}
-use Rattle.sums.specs.Sums.{sumOk, sumsOk}
+use Rattle.sums.specs.Sums.{sumsOk}
 use Rattle.place.specs.Place.{lastPage}
 use Rattle.state.specs.declared.State.{State}
 use Rattle.state.specs.State.{idle, started, running, sumCount, flagCount, keptSize, freshAt}

@@ -1,9 +1,9 @@
 -- What the tests of a state may take for granted, and what a state that passes them says.
 use Prim.Native.Nat.{ℕ, _≤_, _<_}
 use mathlib.Core.Path.{_≡_}
-use mathlib.Core.Bool.{Bool, true, false}
+use mathlib.Core.Bool.{true, false}
 use mathlib.Core.List.{List}
-use lib.IntN.{ℤ, pos}
+use lib.IntN.{pos}
 use lib.ListN.{length, getD}
 use Rattle.tables.specs.declared.Head.{Head}
 use Rattle.lookup.specs.Find.{details}

@@ -2,7 +2,6 @@
 ghost use mathlib.Core.Path.{_≡_};
 ghost use Prim.Native.Nat.{_≤_};
 ghost use lib.ListN.{length};
-ghost use Rattle.rows.specs.Facts.{Whole};
 ghost use Rattle.sums.specs.Sums.{sumsOk};
 ghost use Rattle.state.specs.State.{idle, sumCount, keptSize, freshAt};
 ghost use Rattle.state.specs.Rules.{rangesOk, zeroSums, zeroFlags, zeroBytes, freshOk, lineOk, savedOk, beyondOk, keptOk, runningOk, stateOk};

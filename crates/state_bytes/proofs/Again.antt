@@ -3,9 +3,9 @@
 --     in-bytes      what it asks for holds of a state whose sums are in range
 --     bytes-again   530 bytes whose flags are 0 or 1, read and written again, are the same bytes
 -- Assumes nothing.
-use Prim.Native.Nat.{ℕ, zero, suc, _+_, _*_, _-_, _/_, _%_, _≤_, _<_, _^_}
+use Prim.Native.Nat.{ℕ, zero, suc, _+_, _*_, _-_, _/_, _%_, _≤_, _<_}
 use mathlib.Core.Path.{_≡_, refl, sym, ap, _∙_}
-use mathlib.Core.Bool.{Bool, true, false, cond, _&&_}
+use mathlib.Core.Bool.{Bool, true, false}
 use mathlib.Core.List.{List, [], _∷_, _++_}
 use native.Mathlib.Nat.{not-suc-le-zero, le-of-suc-le-suc}
 use native.Mathlib.Numerals.{add-one}
@@ -17,7 +17,7 @@ use lib.ListN.{length, getD, drop}
 use lib.Seq.{drop-cons, getD-append-add, drop-append-add}
 use mir.Syntax.{w64}
 use mir.Val.{SFits}
-use Rattle.counts.specs.Below.{bit, allBelow, listBelow}
+use Rattle.counts.specs.Below.{bit, listBelow}
 use Rattle.counts.proofs.Laws.{by-test, all-at, list-filled}
 use Rattle.file.specs.Number.{num}
 use Rattle.number.specs.Value.{limit}

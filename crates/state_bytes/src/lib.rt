@@ -1,9 +1,8 @@
 // The state of a report as 530 bytes: written, and read back from any bytes.
 ghost use mathlib.Core.Path.{_≡_};
 ghost use Prim.Native.Nat.{_+_, _*_, _≤_, _<_};
-ghost use lib.ListN.{length, drop};
+ghost use lib.ListN.{length};
 ghost use Rattle.counts.specs.Below.{listBelow};
-ghost use Rattle.file.specs.Number.{num};
 ghost use Rattle.splice.specs.Splice.{splice};
 ghost use Rattle.state.specs.State.{sumCount, flagCount};
 ghost use Rattle.state_bytes.specs.Numbers.{bytes2, bytes4, bytes8, bits, number4 as number4Spec, number8 as number8Spec, ofBits};

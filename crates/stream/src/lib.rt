@@ -1,7 +1,5 @@
 // Many records, one behind the other, as detail 0.
-ghost use Prim.Native.Nat.{_+_, _≤_};
-ghost use mathlib.Core.Path.{_≡_};
-ghost use lib.ListN.{length, drop};
+ghost use Prim.Native.Nat.{_+_};
 ghost use Rattle.stream.specs.Run.{generateAll, Comes};
 use calls::Asked;
 use refusals::Verdict;

@@ -1,7 +1,7 @@
 -- `calls::flags_at` meets its contract, by the test on the level.
 -- Assumes nothing.
 use Prim.Native.Nat.{_<_, _≤_}
-use mathlib.Core.Path.{_≡_, refl, ap, _∙_}
+use mathlib.Core.Path.{refl, ap, _∙_}
 use borrow.Author.Tests.{lt-ltb, le-ltb}
 use native.Mathlib.Omega.{arith}
 use Rattle.state.specs.Kept.{flagsSet}

@@ -1,10 +1,7 @@
 -- `console::flush` meets its contract: what waits is a part of the output.
 -- Assumes nothing.
-use Prim.Native.Nat.{_-_, _≤_, _<_, _^_}
-use mathlib.Core.Path.{_≡_, sym}
-use native.Mathlib.Omega.{arith}
+use mathlib.Core.Path.{sym}
 use borrow.Author.Needs.{needs}
-use lib.ListN.{length}
 use lib.Seq.{length-take-le}
 use Rattle.console.proofs.flush.Statement.{statement}
 use Rattle.console.proofs.flush.Tie as tie

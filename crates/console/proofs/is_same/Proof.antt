@@ -1,9 +1,7 @@
 -- `console::is_same` meets its contract.
 -- Assumes nothing.
-use Prim.Native.Nat.{_-_, _≤_, _<_, _^_}
-use mathlib.Core.Path.{_≡_, sym}
+use Prim.Native.Nat.{_-_, _≤_}
 use native.Mathlib.Omega.{arith}
-use borrow.Author.Needs.{needs}
 use lib.ListN.{length}
 use Rattle.console.proofs.is_same.Statement.{statement}
 use Rattle.console.proofs.is_same.Tie as tie

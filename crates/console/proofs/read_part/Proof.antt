@@ -1,10 +1,8 @@
 -- `console::read_part` meets its contract: what is read is a part of the buffer.
 -- Assumes nothing.
-use Prim.Native.Nat.{_-_, _≤_, _<_, _^_}
-use mathlib.Core.Path.{_≡_, sym}
+use mathlib.Core.Path.{sym}
 use native.Mathlib.Omega.{arith}
 use borrow.Author.Needs.{needs}
-use lib.ListN.{length}
 use lib.Seq.{length-take-le}
 use Rattle.console.proofs.read_part.Statement.{statement}
 use Rattle.console.proofs.read_part.Tie as tie

@@ -1,8 +1,6 @@
 -- `refusals::detail_tried` meets its contract, by the search for the detail.
 -- Assumes nothing.
-use Prim.Native.Nat.{_<_, _≤_}
 use mathlib.Core.Path.{refl}
-use native.Mathlib.Omega.{arith}
 use borrow.Author.Needs.{needs}
 use borrow.Author.Tests.{lt-ltb, le-ltb}
 use Rattle.refusals.proofs.detail_tried.Statement.{statement}

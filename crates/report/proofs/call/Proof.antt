@@ -1,6 +1,5 @@
 -- `report::call` meets its contract: refusal 1 where D1 is broken, else the call in a table of one of two sizes.
 -- Assumes nothing.
-use Prim.Native.Nat.{_≤_}
 use mathlib.Core.Path.{sym, _∙_}
 use native.Mathlib.Omega.{arith}
 use borrow.Author.Needs.{needs}

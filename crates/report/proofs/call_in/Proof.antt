@@ -1,6 +1,6 @@
 -- `report::call_in` meets its contract: refusal 1 by D2 to D8 in order, then the call on the tables.
 -- Assumes nothing.
-use mathlib.Core.Path.{_≡_, sym, _∙_}
+use mathlib.Core.Path.{sym, _∙_}
 use borrow.Author.Needs.{needs}
 use Rattle.tables.proofs.Says.{numbers-in}
 use Rattle.description.proofs.Answer.{literals-in}

@@ -1,6 +1,6 @@
 -- `report_c::bailcurlew_fresh` meets its contract.
 -- Assumes nothing.
-use mathlib.Core.Path.{_≡_, ap, _∙_}
+use mathlib.Core.Path.{ap, _∙_}
 use borrow.Author.Needs.{needs}
 use Rattle.state_bytes.specs.Bytes.{bytesOf}
 use Rattle.report_c.proofs.bailcurlew_fresh.Statement.{statement}

@@ -1,6 +1,6 @@
 -- `sheet::print_file` meets its contract. The invariant: what waits is inside the output, the records in hand inside the buffer.
 -- Assumes nothing.
-use Prim.Native.Nat.{_-_, _≤_, _<_, _^_}
+use Prim.Native.Nat.{_≤_}
 use mathlib.Core.Path.{_≡_}
 use native.Mathlib.Nat.{mod-le}
 use native.Mathlib.Omega.{arith}

@@ -1,7 +1,6 @@
 -- `state::zero_sums` meets its contract. The invariant: the sums passed are tested.
 -- Assumes nothing.
 use Prim.Native.Nat.{_-_}
-use mathlib.Core.Path.{refl}
 use native.Mathlib.Omega.{arith}
 use borrow.Author.Needs.{needs}
 use lib.IntN.{pos}

@@ -1,6 +1,6 @@
 -- `state_bytes::decode` meets its contract, part by part.
 -- Assumes nothing.
-use mathlib.Core.Path.{_≡_, refl, _∙_}
+use mathlib.Core.Path.{refl, _∙_}
 use Rattle.state_bytes.proofs.Laws.{state-read, kept-read}
 use borrow.Author.Needs.{needs}
 use Rattle.state_bytes.proofs.decode.Statement.{statement}

@@ -1,12 +1,12 @@
 -- `state_bytes::flags_of` meets its contract. The invariant: the flags passed are read.
 -- Assumes nothing.
 use Prim.Native.Nat.{ℕ, _+_, _-_, _≤_, _<_}
-use mathlib.Core.Path.{_≡_, refl, ap, _∙_}
-use mathlib.Core.Bool.{Bool, false}
+use mathlib.Core.Path.{_≡_, refl}
+use mathlib.Core.Bool.{false}
 use native.Mathlib.Omega.{arith}
 use borrow.Author.Needs.{needs}
 use borrow.Author.Count.{below-none}
-use lib.ListN.{length, getD, length-set, length-replicate}
+use lib.ListN.{length, getD, length-set}
 use Rattle.counts.proofs.Laws.{list-filled}
 use Rattle.tables.proofs.Fill.{fill-next}
 use Rattle.state_bytes.specs.Bytes.{flagAt}

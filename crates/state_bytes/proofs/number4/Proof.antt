@@ -2,9 +2,6 @@ use Rattle.state_bytes.specs.Numbers.{number4}
 use borrow.Author.Needs.{needs}
 use Rattle.state_bytes.proofs.number4.Statement.{statement}
 use Rattle.state_bytes.proofs.number4.Tie as tie
-use Rattle.state_bytes.proofs.number4.Reads as reads
-use Rattle.state_bytes.proofs.number4.Lts as lts
-use Rattle.file.proofs.num_at.Reads as num-at-reads
 
 -- src/lib.rt:17:5
 num-at-requires : tie.Need-num-at-requires

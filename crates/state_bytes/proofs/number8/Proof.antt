@@ -2,9 +2,6 @@ use Rattle.state_bytes.specs.Numbers.{number8}
 use borrow.Author.Needs.{needs}
 use Rattle.state_bytes.proofs.number8.Statement.{statement}
 use Rattle.state_bytes.proofs.number8.Tie as tie
-use Rattle.state_bytes.proofs.number8.Reads as reads
-use Rattle.state_bytes.proofs.number8.Lts as lts
-use Rattle.state_bytes.proofs.number4.Reads as number4-reads
 
 -- src/lib.rt:24:5
 number4-requires : tie.Need-number4-requires

@@ -1,14 +1,13 @@
 -- `state_bytes::of_bits` meets its contract, by the highest bit.
 -- Assumes nothing.
-use Prim.Native.Nat.{ℕ, _-_, _≤_, _<_}
-use mathlib.Core.Path.{_≡_, refl, sym, ap, _∙_, subst}
+use Prim.Native.Nat.{ℕ, _-_, _≤_}
+use mathlib.Core.Path.{_≡_, sym, ap, _∙_, subst}
 use native.Mathlib.Omega.{arith}
 use borrow.Author.Needs.{needs}
 use lib.IntN.{ℤ, pos, negsuc, _-ℤ_}
 use mir.Syntax.{w64}
 use mir.Val.{SFits, toZ}
 use Rattle.number.proofs.Bits.{read-natAbs, read-as}
-use Rattle.state_bytes.specs.Numbers.{ofBits}
 use Rattle.state_bytes.proofs.Laws.{below-zero, low-bits, high-bits}
 use Rattle.state_bytes.proofs.of_bits.Statement.{statement}
 use Rattle.state_bytes.proofs.of_bits.Tie as tie

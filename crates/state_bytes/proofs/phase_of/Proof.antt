@@ -1,11 +1,10 @@
 -- `state_bytes::phase_of` meets its contract, by the flags.
 -- Assumes nothing.
-use mathlib.Core.Path.{_≡_, sym, ap, _∙_}
+use mathlib.Core.Path.{sym, ap, _∙_}
 use mathlib.Core.Bool.{Bool, cond}
-use Prim.Native.Nat.{ℕ}
 use borrow.Author.Needs.{needs}
 use lib.ListN.{getD}
-use Rattle.state_bytes.specs.Bytes.{flagsPlain, noPhase}
+use Rattle.state_bytes.specs.Bytes.{noPhase}
 use Rattle.state_bytes.proofs.phase_of.Statement.{statement}
 use Rattle.state_bytes.proofs.phase_of.Tie as tie
 

@@ -1,7 +1,7 @@
 -- `state_bytes::put4` meets its contract: the low half, and the high half behind it.
 -- Assumes nothing.
-use Prim.Native.Nat.{ℕ, _+_, _/_, _%_}
-use mathlib.Core.Path.{refl, sym, ap}
+use Prim.Native.Nat.{_+_, _/_, _%_}
+use mathlib.Core.Path.{refl}
 use native.Mathlib.Omega.{arith}
 use borrow.Author.Needs.{needs}
 use Rattle.splice.proofs.Laws.{splice-then}

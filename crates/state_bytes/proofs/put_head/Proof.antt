@@ -1,13 +1,8 @@
 -- `state_bytes::put_head` meets its contract: each part right behind the one before.
 -- Assumes nothing.
-use Prim.Native.Nat.{ℕ, _+_, _≤_}
-use mathlib.Core.Path.{_≡_, refl, ap, _∙_}
-use mathlib.Core.List.{List, [], _∷_}
 use native.Mathlib.Omega.{arith}
 use borrow.Author.Needs.{needs}
-use lib.ListN.{length, set, length-set}
-use Rattle.counts.specs.Below.{bit}
-use Rattle.splice.proofs.Going.{going-last}
+use lib.ListN.{length-set}
 use Rattle.state_bytes.proofs.Laws.{head-going, head-last}
 use Rattle.state_bytes.proofs.put_head.Statement.{statement}
 use Rattle.state_bytes.proofs.put_head.Tie as tie

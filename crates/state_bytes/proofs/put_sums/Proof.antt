@@ -1,15 +1,13 @@
 -- `state_bytes::put_sums` meets its contract: eight bytes a turn.
 -- Assumes nothing.
 use Prim.Native.Nat.{ℕ, _+_, _*_, _-_, _≤_}
-use mathlib.Core.Path.{_≡_, refl, sym, ap, _∙_}
-use mathlib.Core.List.{List, [], _∷_, _++_}
+use mathlib.Core.Path.{ap, _∙_}
 use native.Mathlib.Nat.{add-zero}
 use native.Mathlib.Omega.{arith}
 use borrow.Author.Needs.{needs}
-use lib.IntN.{ℤ, pos}
-use lib.ListN.{length, getD, drop}
+use lib.IntN.{pos}
+use lib.ListN.{getD, drop}
 use mir.Syntax.{w64}
-use mir.Val.{toZ, ofZ}
 use mir.ValLaws.{toZ-ofZ}
 use Rattle.splice.specs.Splice.{splice}
 use Rattle.splice.proofs.Going.{Going, going-start, going-step, going-room, going-end}
