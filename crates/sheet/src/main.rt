@@ -332,8 +332,7 @@ fn initiated(d: &[u8]) -> Sheet
     }
 }
 
-// CHECK, INITIATE, the records, TERMINATE. INITIATE would refuse what CHECK refuses; but where a program has only one use of the
-// rules D2 to D8, the compiler sets them into the call, and a row costs 440 instructions more.
+// INITIATE, the records, TERMINATE.
 fn print_sheet(d: &[u8], fd: i32, path: &[u8], progress: bool, buffer: &mut [u8], out: &mut [u8])
     requires { ⌜ 65536 ≤ length (now buffer) ⌝ }
 {
