@@ -20,9 +20,6 @@ returns c =
     rw (c .before .before .before .before .before .before .before .if1 .taken)
     (record { wrote = rw (closing-dues (a .h) (a .t .now) (a .x .pos) _ _ _ (c .before .before .before .before .before .before .page-footing .ensures .is) (c .before .before .before .before .before .report-footing .ensures .is) e) (c .before .before .print-pair .ensures); pos = e })
 
-returns-2 : tie.Need-returns-2
-returns-2 c = rw (c .if1 .left) (printed-nothing (rw (c .if1 .left) at (c .before .before .before .before .before .before .before .before .before .pre .1 .1)))
-
 pub print-closing-spec : {M : Type 1} → statement M
 print-closing-spec =
     tie.close
@@ -33,4 +30,4 @@ print-closing-spec =
     print-pair-requires
     (λ c. search needs)
     returns
-    returns-2)
+    (λ c. rw (c .if1 .left) (printed-nothing (rw (c .if1 .left) at (c .before .before .before .before .before .before .before .before .before .pre .1 .1)))))

@@ -19,9 +19,6 @@ returns c =
     rw (c .before .before .before .before .before .before .before .if1 .taken)
     (record { wrote = rw (opening-dues (a .h) (a .t .now) _ _ (c .before .before .before .before .before .before .report-heading .ensures .is) (c .before .before .before .before .before .first-page-heading .ensures .is)) (c .before .before .print-pair .ensures); pos = c .before .before .before .before .after-opening .ensures })
 
-returns-2 : tie.Need-returns-2
-returns-2 c = rw (c .before .if1 .left) (printed-nothing (rw (c .before .if1 .left) at (c .before .before .before .before .before .before .before .before .before .pre .1)))
-
 pub print-opening-spec : {M : Type 1} → statement M
 print-opening-spec =
     tie.close
@@ -32,4 +29,4 @@ print-opening-spec =
     print-pair-requires
     (λ c. search needs)
     returns
-    returns-2)
+    (λ c. rw (c .before .if1 .left) (printed-nothing (rw (c .before .if1 .left) at (c .before .before .before .before .before .before .before .before .before .pre .1)))))

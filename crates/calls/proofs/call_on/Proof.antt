@@ -55,9 +55,6 @@ last-groups-requires c κs =
     let b = asked-end _ _ _ _ _ (passed e) (c .before .before .before .enum-told3 .given .1) in
     (stands (start (e .before .before)) b, running-else _ _ _ b (c .before .if2 .left))
 
-returns : tie.Need-returns
-returns c = call-refused _ _ _ _ _ _ _ _ _ _ (sym (tests-are (c .before .before .before .before)) ∙ c .before .before .tests .given .1) (c .refusal .ensures) refl
-
 returns-2 : tie.Need-returns-2
 returns-2 c =
     call-begun _ _ _ _ _ _ _ _ _ (passed (c .before .before .before .before)) (c .before .before .enum-told2 .given .1) (c .accepted .ensures ∙ ap accepted (c .before .at-phase .ensures)) refl
@@ -94,7 +91,7 @@ call-on-spec =
     (λ c κs. search needs)
     (λ c κs. search needs)
     last-groups-requires
-    returns
+    (λ c. call-refused _ _ _ _ _ _ _ _ _ _ (sym (tests-are (c .before .before .before .before)) ∙ c .before .before .tests .given .1) (c .refusal .ensures) refl)
     returns-2
     (λ c. search needs)
     returns-3

@@ -12,11 +12,5 @@ use Rattle.calls.proofs.cleared.Tie as tie
 lines-are : (c : tie.After-group-num) → c .group-num .result ≡ lineCount (c .before .before .args .h) (c .before .before .args .t .now) (theDetail (c .before .before .args .h) (c .before .before .args .t .now) (c .before .before .args .d))
 lines-are c = c .group-num .ensures .is ∙ ap (lineCount (c .before .before .args .h) (c .before .before .args .t .now)) (c .before .before .pre .1 .0)
 
-returns : tie.Need-returns
-returns c = rw (eq-eqb _ 0 (sym (lines-are (c .before)) ∙ c .if1 .taken)) refl
-
-returns-2 : tie.Need-returns-2
-returns-2 c = rw (ne-eqb _ 0 (λ q. c .if1 .left (lines-are (c .before) ∙ q))) refl
-
 pub cleared-spec : {M : Type 1} → statement M
-cleared-spec = tie.close (tie.spec (λ c κs. search needs) returns (λ c. omega (arith, c .before .before .before .pre .0)) returns-2)
+cleared-spec = tie.close (tie.spec (λ c κs. search needs) (λ c. rw (eq-eqb _ 0 (sym (lines-are (c .before)) ∙ c .if1 .taken)) refl) (λ c. omega (arith, c .before .before .before .pre .0)) (λ c. rw (ne-eqb _ 0 (λ q. c .if1 .left (lines-are (c .before) ∙ q))) refl))

@@ -7,12 +7,6 @@ use Rattle.calls.proofs.Works.{first-so}
 use Rattle.calls.proofs.first_row.Statement.{statement}
 use Rattle.calls.proofs.first_row.Tie as tie
 
-totals-first-requires : tie.Need-totals-first-requires
-totals-first-requires c κs = let p = c .before .before .before .before .before .before .pre in first-adding _ _ _ (p .0 .accepted) _ (p .0) _ _ (p .1 .0) (p .1 .1)
-
-padded-requires : tie.Need-padded-requires
-padded-requires c κs = let p = c .before .before .before .before .before .before .before .pre in omega (arith, p .1 .0 .long, p .0 .accepted .record256)
-
 cleared-requires : tie.Need-cleared-requires
 cleared-requires c κs =
     let p = c .before .before .before .before .before .before .before .before .before .before .pre in
@@ -34,8 +28,8 @@ first-row-spec =
     tie.close
     (tie.spec
     (λ c κs. search needs)
-    totals-first-requires
-    padded-requires
+    (λ c κs. let p = c .before .before .before .before .before .before .pre in first-adding _ _ _ (p .0 .accepted) _ (p .0) _ _ (p .1 .0) (p .1 .1))
+    (λ c κs. let p = c .before .before .before .before .before .before .before .pre in omega (arith, p .1 .0 .long, p .0 .accepted .record256))
     (λ c κs. search needs)
     (λ c κs. search needs)
     cleared-requires

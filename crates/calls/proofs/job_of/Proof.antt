@@ -4,8 +4,5 @@ use borrow.Author.Needs.{needs}
 use Rattle.calls.proofs.job_of.Statement.{statement}
 use Rattle.calls.proofs.job_of.Tie as tie
 
-returns : tie.Need-returns
-returns c = rw (c .place-of .ensures, c .before .no-prefix .ensures)
-
 pub job-of-spec : {M : Type 1} → statement M
-job-of-spec = tie.close (tie.spec (λ c κs. search needs) (λ c κs. search needs) returns)
+job-of-spec = tie.close (tie.spec (λ c κs. search needs) (λ c κs. search needs) (λ c. rw (c .place-of .ensures, c .before .no-prefix .ensures)))

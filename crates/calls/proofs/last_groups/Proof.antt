@@ -7,9 +7,6 @@ use Rattle.calls.proofs.Works.{last-so}
 use Rattle.calls.proofs.last_groups.Statement.{statement}
 use Rattle.calls.proofs.last_groups.Tie as tie
 
-totals-last-requires : tie.Need-totals-last-requires
-totals-last-requires c κs = let p = c .before .before .before .before .before .before .before .pre in (p .0 .accepted .countersIn, last-sums _ _ _ (p .0 .accepted) _ (p .0) (p .1))
-
 run-requires : tie.Need-run-requires
 run-requires c κs =
     let p = c .before .before .before .before .before .before .before .before .before .before .before .before .before .pre in
@@ -23,7 +20,7 @@ pub last-groups-spec : {M : Type 1} → statement M
 last-groups-spec =
     tie.close
     (tie.spec
-    totals-last-requires
+    (λ c κs. let p = c .before .before .before .before .before .before .before .pre in (p .0 .accepted .countersIn, last-sums _ _ _ (p .0 .accepted) _ (p .0) (p .1)))
     (λ c κs. search needs)
     (λ c κs. search needs)
     (λ c. sym (c .before .before .before .before .before .before .before .before .before .before .before .pre .0 .sized .keptLong))

@@ -4,8 +4,5 @@ use borrow.Author.Needs.{needs}
 use Rattle.counters.proofs.level_of.Statement.{statement}
 use Rattle.counters.proofs.level_of.Tie as tie
 
-returns : tie.Need-returns
-returns c = record { is = rw (c .group-num .ensures .is, c .before .counter-num .ensures .is); small = search needs }
-
 pub level-of-spec : {M : Type 1} → statement M
-level-of-spec = tie.close (tie.spec (λ c κs. search needs) (λ c κs. search needs) returns)
+level-of-spec = tie.close (tie.spec (λ c κs. search needs) (λ c κs. search needs) (λ c. record { is = rw (c .group-num .ensures .is, c .before .counter-num .ensures .is); small = search needs }))

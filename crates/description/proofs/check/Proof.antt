@@ -10,9 +10,6 @@ use Rattle.description.proofs.Answer.{answers, d1-broken, front}
 use Rattle.description.proofs.check.Statement.{statement}
 use Rattle.description.proofs.check.Tie as tie
 
-returns : tie.Need-returns
-returns c = answers _ _ (sym (d1-broken _ (failed (c .before .before .rule-d1 .ensures) (c .enum-told2 .given .1))))
-
 -- the numbers fit an array of the most
 fits : (c : tie.After-numbers-of) → c .numbers-of .result ≤ 4392
 fits c = let n = numbers-in _ (passed (c .before .before .before .rule-d1 .ensures) (c .before .enum-told .given .1)) in omega (arith, n .few)
@@ -24,7 +21,7 @@ check-spec =
     (λ c κs. search needs)
     (λ c. search needs)
     (λ c. search needs)
-    returns
+    (λ c. answers _ _ (sym (d1-broken _ (failed (c .before .before .rule-d1 .ensures) (c .enum-told2 .given .1)))))
     (λ c κs. passed (c .before .before .rule-d1 .ensures) (c .enum-told .given .1))
     fits
     (λ c. sym (front _ 4392 1 (fits (c .before))))

@@ -20,9 +20,6 @@ loop-holds : tie.Need-loop-holds Inv-loop μ-loop
 unfolding allBelow
 loop-holds c = search needs
 
-loop-again : tie.Need-loop-again Inv-loop μ-loop
-loop-again c = (omega arith, all-next _ _ (c .before .before .loop .inv .1) (c .control-ok .ensures))
-
 returns : tie.Need-returns Inv-loop μ-loop
 unfolding ruleD4
 returns c =
@@ -32,4 +29,4 @@ returns c =
 pub rule-d4-spec : {M : Type 1} → statement M
 rule-d4-spec =
     tie.close
-    (tie.spec Inv-loop μ-loop (λ c κs. search needs) loop-holds (λ c κs. omega arith) (λ c. omega arith) (λ c. omega arith) loop-again (λ c κs. search needs) returns)
+    (tie.spec Inv-loop μ-loop (λ c κs. search needs) loop-holds (λ c κs. omega arith) (λ c. omega arith) (λ c. omega arith) (λ c. (omega arith, all-next _ _ (c .before .before .loop .inv .1) (c .control-ok .ensures))) (λ c κs. search needs) returns)

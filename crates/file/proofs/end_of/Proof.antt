@@ -6,16 +6,7 @@ use Rattle.file.proofs.Laws.{product}
 use Rattle.file.proofs.end_of.Statement.{statement}
 use Rattle.file.proofs.end_of.Tie as tie
 
-mul-result : tie.Need-mul-result
-mul-result c = omega (arith, product (c .before .before .count-of .ensures .small) (c .entry-size .ensures .1))
-
-add-result : tie.Need-add-result
-add-result c = omega (arith, product (c .before .before .count-of .ensures .small) (c .entry-size .ensures .1))
-
-returns : tie.Need-returns
-returns c = rw (c .entry-size .ensures .0, c .before .before .count-of .ensures .is, c .before .before .before .start-of .ensures .is)
-
 pub end-of-spec : {M : Type 1} → statement M
 end-of-spec =
     tie.close
-    (tie.spec (λ c κs. search needs) (λ c κs. search needs) (λ c κs. search needs) (λ c κs. search needs) mul-result add-result returns)
+    (tie.spec (λ c κs. search needs) (λ c κs. search needs) (λ c κs. search needs) (λ c κs. search needs) (λ c. omega (arith, product (c .before .before .count-of .ensures .small) (c .entry-size .ensures .1))) (λ c. omega (arith, product (c .before .before .count-of .ensures .small) (c .entry-size .ensures .1))) (λ c. rw (c .entry-size .ensures .0, c .before .before .count-of .ensures .is, c .before .before .before .start-of .ensures .is)))

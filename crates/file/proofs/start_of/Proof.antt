@@ -4,10 +4,7 @@ use borrow.Author.Needs.{needs}
 use Rattle.file.proofs.start_of.Statement.{statement}
 use Rattle.file.proofs.start_of.Tie as tie
 
-returns : tie.Need-returns
-returns c = record { is = rw (c .num-at .ensures .is, c .before .trailer-at .ensures); small = c .num-at .ensures .small }
-
 pub start-of-spec : {M : Type 1} → statement M
 start-of-spec =
     tie.close
-    (tie.spec (λ c κs. search needs) (λ c. search needs) (λ c. search needs) (λ c κs. search needs) returns)
+    (tie.spec (λ c κs. search needs) (λ c. search needs) (λ c. search needs) (λ c κs. search needs) (λ c. record { is = rw (c .num-at .ensures .is, c .before .trailer-at .ensures); small = c .num-at .ensures .small }))

@@ -62,9 +62,6 @@ loop-again c =
     let wrote = rw (c .before .before .before .before .before .on-line .ensures, x, i .2) at (c .before .before .before .put-line .ensures) in
     (going-on (i .0) (own s k) _ (join-next (own s) (c .before .before .before .before .before .before .before .before .before .group-num2 .result) k (omega (arith, c .before .before .before .before .before .before .before .loop-test .taken))) wrote, omega (arith, c .before .before .before .before .before .before .before .loop-test .taken), omega (arith, next, i .2), omega (arith, i .3))
 
-returns : tie.Need-returns Inv-loop μ-loop
-returns c = going-end (c .before .loop .inv .0) (join-end _ (c .before .before .group-num2 .result) (c .before .loop .k) (omega arith))
-
 pub print-group-spec : {M : Type 1} → statement M
 print-group-spec =
     tie.close
@@ -85,4 +82,4 @@ print-group-spec =
     (λ c. omega (arith, c .before .before .before .before .before .before .before .loop-test .taken))
     loop-again
     (λ c. c .before .loop .inv .0 .size)
-    returns)
+    (λ c. going-end (c .before .loop .inv .0) (join-end _ (c .before .before .group-num2 .result) (c .before .loop .k) (omega arith))))

@@ -22,9 +22,6 @@ loop-holds : tie.Need-loop-holds Inv-loop μ-loop
 unfolding allBelow freeColumn
 loop-holds c = search needs
 
-shown-ok-requires : tie.Need-shown-ok-requires Inv-loop μ-loop
-shown-ok-requires c κs = (c .before .before .before .before .before .before .before .before .before .pre .0, c .before .before .before .item-of .ensures)
-
 loop-again : tie.Need-loop-again Inv-loop μ-loop
 loop-again c =
     let b = c .before .before .before .before .before .before in
@@ -50,4 +47,4 @@ returns c =
 pub line-items-ok-spec : {M : Type 1} → statement M
 line-items-ok-spec =
     tie.close
-    (tie.spec Inv-loop μ-loop (λ c κs. search needs) (λ c κs. search needs) loop-holds (λ c. omega arith) (λ c κs. omega arith) (λ c κs. search needs) (λ c κs. search needs) (λ c κs. search needs) shown-ok-requires (λ c. omega arith) (λ c. omega arith) (λ c. omega arith) loop-again returns)
+    (tie.spec Inv-loop μ-loop (λ c κs. search needs) (λ c κs. search needs) loop-holds (λ c. omega arith) (λ c κs. omega arith) (λ c κs. search needs) (λ c κs. search needs) (λ c κs. search needs) (λ c κs. (c .before .before .before .before .before .before .before .before .before .pre .0, c .before .before .before .item-of .ensures)) (λ c. omega arith) (λ c. omega arith) (λ c. omega arith) loop-again returns)

@@ -20,9 +20,6 @@ loop-holds : tie.Need-loop-holds Inv-loop μ-loop
 unfolding allBelow
 loop-holds c = search needs
 
-loop-again : tie.Need-loop-again Inv-loop μ-loop
-loop-again c = (omega arith, all-next _ _ (c .before .before .loop .inv .1) (rw (c .step-ok .ensures, c .before .before .before .group-num .ensures .is)))
-
 returns : tie.Need-returns Inv-loop μ-loop
 returns c =
     let e : c .before .loop .k ≡ c .before .before .before .later-of .result = omega arith in
@@ -31,4 +28,4 @@ returns c =
 pub later-ok-spec : {M : Type 1} → statement M
 later-ok-spec =
     tie.close
-    (tie.spec Inv-loop μ-loop (λ c κs. omega arith) (λ c κs. omega arith) (λ c. omega arith) loop-holds (λ c. omega arith) (λ c κs. omega arith) (λ c. omega arith) (λ c. omega arith) loop-again returns)
+    (tie.spec Inv-loop μ-loop (λ c κs. omega arith) (λ c κs. omega arith) (λ c. omega arith) loop-holds (λ c. omega arith) (λ c κs. omega arith) (λ c. omega arith) (λ c. omega arith) (λ c. (omega arith, all-next _ _ (c .before .before .loop .inv .1) (rw (c .step-ok .ensures, c .before .before .before .group-num .ensures .is)))) returns)

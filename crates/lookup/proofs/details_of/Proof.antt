@@ -20,9 +20,6 @@ loop-holds : tie.Need-loop-holds Inv-loop μ-loop
 unfolding sumBelow
 loop-holds c = search needs
 
-loop-again : tie.Need-loop-again Inv-loop μ-loop
-loop-again c = (omega arith, (sum-next _ _ (c .before .before .before .loop .inv .1 .0) (rw (c .one-if .ensures .0, c .before .group-num .ensures .is)), omega arith))
-
 returns : tie.Need-returns Inv-loop μ-loop
 unfolding details
 returns c =
@@ -32,4 +29,4 @@ returns c =
 pub details-of-spec : {M : Type 1} → statement M
 details-of-spec =
     tie.close
-    (tie.spec Inv-loop μ-loop (λ c κs. search needs) loop-holds (λ c κs. omega arith) (λ c κs. search needs) (λ c. omega arith) (λ c. omega arith) (λ c. omega arith) loop-again returns)
+    (tie.spec Inv-loop μ-loop (λ c κs. search needs) loop-holds (λ c κs. omega arith) (λ c κs. search needs) (λ c. omega arith) (λ c. omega arith) (λ c. omega arith) (λ c. (omega arith, (sum-next _ _ (c .before .before .before .loop .inv .1 .0) (rw (c .one-if .ensures .0, c .before .group-num .ensures .is)), omega arith))) returns)

@@ -6,11 +6,5 @@ use borrow.Author.Tests.{lt-ltb, le-ltb}
 use Rattle.refusals.proofs.detail_tried.Statement.{statement}
 use Rattle.refusals.proofs.detail_tried.Tie as tie
 
-returns : tie.Need-returns
-returns c = rw (lt-ltb _ _ (rw (c .before .before .find-detail .ensures .0, c .before .wide .ensures .is) at (c .if1 .taken))) refl
-
-returns-2 : tie.Need-returns-2
-returns-2 c = rw (le-ltb _ _ (rw (c .before .before .find-detail .ensures .0, c .before .wide .ensures .is) at (c .if1 .left))) refl
-
 pub detail-tried-spec : {M : Type 1} → statement M
-detail-tried-spec = tie.close (tie.spec (λ c κs. search needs) (λ c κs. search needs) returns returns-2)
+detail-tried-spec = tie.close (tie.spec (λ c κs. search needs) (λ c κs. search needs) (λ c. rw (lt-ltb _ _ (rw (c .before .before .find-detail .ensures .0, c .before .wide .ensures .is) at (c .if1 .taken))) refl) (λ c. rw (le-ltb _ _ (rw (c .before .before .find-detail .ensures .0, c .before .wide .ensures .is) at (c .if1 .left))) refl))

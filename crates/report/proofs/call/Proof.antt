@@ -10,9 +10,6 @@ use Rattle.report.proofs.Checked.{call-broken}
 use Rattle.report.proofs.call.Statement.{statement}
 use Rattle.report.proofs.call.Tie as tie
 
-returns : tie.Need-returns
-returns c = call-broken _ _ (d1-broken _ (failed (c .before .before .before .rule-d1 .ensures) (c .before .enum-told2 .given .1))) _ _ (c .refusal .ensures) _ _ _
-
 -- the numbers fit an array of the most
 few : tie.Need-array-borrow-prefix-t-2
 few c = let n = numbers-in _ (passed (c .before .before .before .before .rule-d1 .ensures) (c .before .before .enum-told .given .1)) in omega (arith, n .few, c .before .numbers-of .ensures)
@@ -25,7 +22,7 @@ call-spec =
     (λ c. search needs)
     (λ c. search needs)
     (λ c κs. search needs)
-    returns
+    (λ c. call-broken _ _ (d1-broken _ (failed (c .before .before .before .rule-d1 .ensures) (c .before .enum-told2 .given .1))) _ _ (c .refusal .ensures) _ _ _)
     (λ c κs. passed (c .before .before .rule-d1 .ensures) (c .enum-told .given .1))
     (λ c. search needs)
     (λ c. sym (front _ 512 1 (c .before .if1 .taken)))

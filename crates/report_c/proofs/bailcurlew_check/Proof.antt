@@ -14,8 +14,5 @@ cast-result c =
     let z : extra (c .before .check .result) ≤ 8 = extra-small _ (c .before .check .ensures .ruleIn) in
     omega (arith, c .extra .ensures)
 
-returns : tie.Need-returns
-returns c = c .extra .ensures ∙ c .before .check .ensures .extraIs
-
 pub bailcurlew-check-spec : {M : Type 1} → statement M
-bailcurlew-check-spec = tie.close (tie.spec (λ c κs. search needs) (λ c κs. search needs) cast-result returns)
+bailcurlew-check-spec = tie.close (tie.spec (λ c κs. search needs) (λ c κs. search needs) cast-result (λ c. c .extra .ensures ∙ c .before .check .ensures .extraIs))

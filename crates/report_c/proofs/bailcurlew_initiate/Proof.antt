@@ -5,15 +5,6 @@ use Rattle.report_c.proofs.Laws.{leaves, initiate-out}
 use Rattle.report_c.proofs.bailcurlew_initiate.Statement.{statement}
 use Rattle.report_c.proofs.bailcurlew_initiate.Tie as tie
 
-decode-requires : tie.Need-decode-requires
-decode-requires c κs = search needs
-
-initiate-requires : tie.Need-initiate-requires
-initiate-requires c κs = search needs
-
-tell-requires : tie.Need-tell-requires
-tell-requires c κs = search needs
-
 returns : tie.Need-returns
 returns c =
     let x = c .before .before .before .initiate .ensures in
@@ -21,4 +12,4 @@ returns c =
 
 pub bailcurlew-initiate-spec : {M : Type 1} → statement M
 bailcurlew-initiate-spec =
-    tie.close (tie.spec decode-requires initiate-requires tell-requires returns)
+    tie.close (tie.spec (λ c κs. search needs) (λ c κs. search needs) (λ c κs. search needs) returns)

@@ -8,30 +8,6 @@ use Rattle.report_c.proofs.Laws.{three, accepted-stored, refused-stored
 use Rattle.report_c.proofs.tell.Statement.{statement}
 use Rattle.report_c.proofs.tell.Tie as tie
 
-number-requires : tie.Need-number-requires
-number-requires c κs = search needs
-
-slice-write-answer : tie.Need-slice-write-answer
-slice-write-answer c = search needs
-
-extra-requires : tie.Need-extra-requires
-extra-requires c κs = search needs
-
-slice-write-answer-2 : tie.Need-slice-write-answer-2
-slice-write-answer-2 c = search needs
-
-slice-write-answer-3 : tie.Need-slice-write-answer-3
-slice-write-answer-3 c = search needs
-
-encode-requires : tie.Need-encode-requires
-encode-requires c κs = search needs
-
-same-length : tie.Need-same-length
-same-length c = search needs
-
-same-length-2 : tie.Need-same-length-2
-same-length-2 c = search needs
-
 returns : tie.Need-returns
 returns c =
     let a = c .before .before .before .before .before .before .before .before .before .before .args .a in
@@ -40,9 +16,6 @@ returns c =
       stateIs = c .before .before .encode .ensures ∙ accepted-stored (c .before .before .before .before .before .before .before .before .before .before .args .state .now) a (eq-eqb (number (a .verdict)) 0 (sym e ∙ c .before .before .before .before .before .if1 .taken));
       answerIs = three (c .before .before .before .before .before .before .before .before .before .before .args .answer .now) (c .before .before .before .before .before .before .before .before .before .before .pre .1) e (c .before .before .before .before .before .before .extra .ensures) refl;
     }
-
-same-length-3 : tie.Need-same-length-3
-same-length-3 c = search needs
 
 returns-2 : tie.Need-returns-2
 returns-2 c =
@@ -57,14 +30,14 @@ pub tell-spec : {M : Type 1} → statement M
 tell-spec =
     tie.close
     (tie.spec
-    number-requires
-    slice-write-answer
-    extra-requires
-    slice-write-answer-2
-    slice-write-answer-3
-    encode-requires
-    same-length
-    same-length-2
+    (λ c κs. search needs)
+    (λ c. search needs)
+    (λ c κs. search needs)
+    (λ c. search needs)
+    (λ c. search needs)
+    (λ c κs. search needs)
+    (λ c. search needs)
+    (λ c. search needs)
     returns
-    same-length-3
+    (λ c. search needs)
     returns-2)

@@ -20,9 +20,6 @@ loop-holds : tie.Need-loop-holds Inv-loop μ-loop
 unfolding firstBelow
 loop-holds c = search needs
 
-loop-again : tie.Need-loop-again Inv-loop μ-loop
-loop-again c = (omega arith, first-next _ _ (c .before .before .before .loop .inv .1) (c .before .control-differs .ensures) (c .if2 .left))
-
 returns : tie.Need-returns Inv-loop μ-loop
 unfolding breakLevel
 returns c =
@@ -39,4 +36,4 @@ returns-2 c =
 pub break-level-spec : {M : Type 1} → statement M
 break-level-spec =
     tie.close
-    (tie.spec Inv-loop μ-loop (λ c κs. search needs) loop-holds (λ c κs. search needs) (λ c. omega arith) (λ c. omega arith) loop-again returns returns-2)
+    (tie.spec Inv-loop μ-loop (λ c κs. search needs) loop-holds (λ c κs. search needs) (λ c. omega arith) (λ c. omega arith) (λ c. (omega arith, first-next _ _ (c .before .before .before .loop .inv .1) (c .before .control-differs .ensures) (c .if2 .left))) returns returns-2)

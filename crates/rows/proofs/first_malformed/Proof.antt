@@ -22,9 +22,6 @@ loop-holds : tie.Need-loop-holds Inv-loop μ-loop
 unfolding firstBelow
 loop-holds c = search needs
 
-well-formed-requires : tie.Need-well-formed-requires Inv-loop μ-loop
-well-formed-requires c κs = part-in (c .before .loop .i) (omega arith) (omega arith) (c .before .before .before .before .before .pre)
-
 loop-again : tie.Need-loop-again Inv-loop μ-loop
 loop-again c =
     let b = c .before .before .before in
@@ -48,4 +45,4 @@ returns-2 c =
 pub first-malformed-spec : {M : Type 1} → statement M
 first-malformed-spec =
     tie.close
-    (tie.spec Inv-loop μ-loop (λ c κs. search needs) loop-holds well-formed-requires (λ c. omega arith) (λ c. omega arith) loop-again returns returns-2)
+    (tie.spec Inv-loop μ-loop (λ c κs. search needs) loop-holds (λ c κs. part-in (c .before .loop .i) (omega arith) (omega arith) (c .before .before .before .before .before .pre)) (λ c. omega arith) (λ c. omega arith) loop-again returns returns-2)

@@ -5,10 +5,7 @@ use Rattle.file.proofs.Laws.{passed}
 use Rattle.sheet.proofs.record_length.Statement.{statement}
 use Rattle.sheet.proofs.record_length.Tie as tie
 
-head-of-requires : tie.Need-head-of-requires
-head-of-requires c κs = passed (c .before .before .rule-d1 .ensures) (c .enum-told .given .1)
-
 pub record-length-spec : {M : Type 1} → statement M
 record-length-spec =
     tie.close
-    (tie.spec (λ c κs. search needs) (λ c. search needs) (λ c. search needs) (λ c. search needs) head-of-requires (λ c κs. search needs) (λ c. search needs) (λ c. search needs))
+    (tie.spec (λ c κs. search needs) (λ c. search needs) (λ c. search needs) (λ c. search needs) (λ c κs. passed (c .before .before .rule-d1 .ensures) (c .enum-told .given .1)) (λ c κs. search needs) (λ c. search needs) (λ c. search needs))

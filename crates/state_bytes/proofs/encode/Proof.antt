@@ -19,42 +19,12 @@ longs c =
     let g = c .before .before .before .before .before .good .0 .1 .1 .1 .1 .1 .1 .1 in
     (length-unmapped Bool (s .flags) 8 (g .1 .0 .1 .0 .1), length-unmapped ℤ (s .sums) 32 (g .0 .1 .0 .1), length-unmapped ℕ (s .kept) 256 (g .1 .1 .0 .1 .0 .1))
 
--- src/lib.rt:158:5
-put-head-requires : tie.Need-put-head-requires
-put-head-requires c κs = search needs
-
--- src/lib.rt:159:15
-slice-aggregate-put-flags : tie.Need-slice-aggregate-put-flags
-slice-aggregate-put-flags c = search needs
-
--- src/lib.rt:159:5
-put-flags-requires : tie.Need-put-flags-requires
-put-flags-requires c κs = search needs
-
--- src/lib.rt:160:14
-slice-aggregate-put-sums : tie.Need-slice-aggregate-put-sums
-slice-aggregate-put-sums c = search needs
-
--- src/lib.rt:160:5
-put-sums-requires : tie.Need-put-sums-requires
-put-sums-requires c κs = search needs
-
--- src/lib.rt:161:18
-slice-aggregate-copy : tie.Need-slice-aggregate-copy
-slice-aggregate-copy c = search needs
-
--- src/lib.rt:161:5
 copy-requires : tie.Need-copy-requires
 copy-requires c κs =
     let k = longs (c .before .before .before .before .before .before .before .before .before .before .before .before .before .before .before) in
     let g = sums-going (c .before .before .before .before .before .before .before .before .before .before .before .before .before .before .before .before .before .before .before .before .args .s) (c .before .before .before .before .before .before .before .before .before .before .before .before .before .before .before .before .before .before .before .before .args .out .now) (c .before .before .before .before .before .before .before .before .before .before .before .before .before .before .before .before .before .before .before .before .pre) (k .0) (k .1) (k .2) (c .before .before .before .before .before .before .before .before .before .before .before .before .before .before .put-head .ensures) (c .before .before .before .before .before .before .before .before .before .put-flags .ensures) (c .before .before .before .before .put-sums .ensures) in
     (omega (arith, k .2), omega (arith, g .size, c .before .before .before .before .before .before .before .before .before .before .before .before .before .before .before .before .before .before .before .before .pre))
 
--- src/lib.rt:151:1
-same-length : tie.Need-same-length
-same-length c = search needs
-
--- src/lib.rt:151:1
 returns : tie.Need-returns
 returns c =
     let s = c .before .before .before .before .before .before .before .before .before .before .before .before .before .before .before .before .before .before .before .before .before .before .before .args .s in
@@ -67,12 +37,12 @@ pub encode-spec : {M : Type 1} → statement M
 encode-spec =
     tie.close
     (tie.spec
-    put-head-requires
-    slice-aggregate-put-flags
-    put-flags-requires
-    slice-aggregate-put-sums
-    put-sums-requires
-    slice-aggregate-copy
+    (λ c κs. search needs)
+    (λ c. search needs)
+    (λ c κs. search needs)
+    (λ c. search needs)
+    (λ c κs. search needs)
+    (λ c. search needs)
     copy-requires
-    same-length
+    (λ c. search needs)
     returns)

@@ -21,9 +21,6 @@ Inv-loop b sums₀ i₀ sums i = (i ≤ 32) × (length sums ≡ 32) × ((k : ℕ
 abbrev μ-loop : tie.MeasureT-loop
 μ-loop b sums₀ i₀ sums i = 32 - i
 
-loop-holds : tie.Need-loop-holds Inv-loop μ-loop
-loop-holds c = (omega arith, refl, below-none _)
-
 loop-again : tie.Need-loop-again Inv-loop μ-loop
 loop-again c =
     let l = c .before .before .before .loop in
@@ -40,4 +37,4 @@ returns c =
 pub sums-of-spec : {M : Type 1} → statement M
 sums-of-spec =
     tie.close
-    (tie.spec Inv-loop μ-loop loop-holds (λ c. omega arith) (λ c. omega arith) (λ c κs. omega arith) (λ c κs. search needs) (λ c. omega arith) (λ c. search needs) (λ c. omega arith) (λ c. omega arith) loop-again returns)
+    (tie.spec Inv-loop μ-loop (λ c. (omega arith, refl, below-none _)) (λ c. omega arith) (λ c. omega arith) (λ c κs. omega arith) (λ c κs. search needs) (λ c. omega arith) (λ c. search needs) (λ c. omega arith) (λ c. omega arith) loop-again returns)

@@ -32,46 +32,10 @@ loop-holds c =
     let a = c .before .before .before .before .args in
     (refl, omega arith, omega arith, refl, omega arith, omega arith, omega arith, refl, reach-start (a .d .now) (a .rows .now) (a .size) (a .s) (a .out .now))
 
-sub-loop : tie.Need-sub-loop Inv-loop μ-loop
-sub-loop c = omega arith
-
-add-call : tie.Need-add-call Inv-loop μ-loop
-add-call c = omega arith
-
-sub-call : tie.Need-sub-call Inv-loop μ-loop
-sub-call c = omega arith
-
-part-call-start : tie.Need-part-call-start Inv-loop μ-loop
-part-call-start c = omega arith
-
-part-call-end : tie.Need-part-call-end Inv-loop μ-loop
-part-call-end c = omega arith
-
-sub-call-2 : tie.Need-sub-call-2 Inv-loop μ-loop
-sub-call-2 c = omega arith
-
-part-call-start-2 : tie.Need-part-call-start-2 Inv-loop μ-loop
-part-call-start-2 c = omega arith
-
-part-call-end-2 : tie.Need-part-call-end-2 Inv-loop μ-loop
-part-call-end-2 c = omega arith
-
-call-requires : tie.Need-call-requires Inv-loop μ-loop
-call-requires c κs = search needs
-
-number-requires : tie.Need-number-requires Inv-loop μ-loop
-number-requires c κs = search needs
-
-add-k : tie.Need-add-k Inv-loop μ-loop
-add-k c = omega arith
-
 add-at : tie.Need-add-at Inv-loop μ-loop
 add-at c =
     let l = c .before .before .before .before .before .before .before .before .before .before .loop in
     omega (arith, room-left _ _ _ _ _ (c .before .before .before .before .before .before .call .ensures), ap length (whole-end (l .at) (l .out) (l .inv .2)), length-drop (l .at) (l .out))
-
-loop-less : tie.Need-loop-less Inv-loop μ-loop
-loop-less c = omega arith
 
 loop-again : tie.Need-loop-again Inv-loop μ-loop
 loop-again c =
@@ -85,9 +49,6 @@ loop-again c =
     let q = next-accepted (a .d .now) (a .rows .now) (a .size) x _ _ _ r (rw m refl) w (put-end (l .at) (l .out) _ (l .inv .2)) n in
     (refl, omega arith, omega (arith, room-left _ _ _ _ _ r, ap length w, length-drop (l .at) (l .out)), omega arith, omega arith, omega arith, omega arith, accepted-is _ n, reach-next (a .d .now) (a .rows .now) (a .size) x _ _ (l .inv .8) (l .inv .7) (l .inv .6) (omega arith) q refl)
 
-same-length : tie.Need-same-length Inv-loop μ-loop
-same-length c = omega arith
-
 returns-2 : tie.Need-returns-2 Inv-loop μ-loop
 returns-2 c =
     let l = c .before .loop in
@@ -95,9 +56,6 @@ returns-2 c =
     let x = here (l .k) (l .at) (l .verdict) (l .state) (l .out) in
     let e = reach-end (a .d .now) (a .rows .now) (a .size) x _ (l .inv .8) (none-left (a .rows .now) (a .size) x (omega arith)) in
     record { runIs = ap (λ (y : Ran). y .run) e; outIs = ap (λ (y : Ran). y .out) e; inRows = omega arith; inOut = omega arith }
-
-same-length-2 : tie.Need-same-length-2 Inv-loop μ-loop
-same-length-2 c = omega arith
 
 returns-3 : tie.Need-returns-3 Inv-loop μ-loop
 returns-3 c =
@@ -121,21 +79,21 @@ generate-all-spec =
     μ-loop
     returns
     loop-holds
-    sub-loop
-    add-call
-    sub-call
-    part-call-start
-    part-call-end
-    sub-call-2
-    part-call-start-2
-    part-call-end-2
-    call-requires
-    number-requires
-    add-k
+    (λ c. omega arith)
+    (λ c. omega arith)
+    (λ c. omega arith)
+    (λ c. omega arith)
+    (λ c. omega arith)
+    (λ c. omega arith)
+    (λ c. omega arith)
+    (λ c. omega arith)
+    (λ c κs. search needs)
+    (λ c κs. search needs)
+    (λ c. omega arith)
     add-at
-    loop-less
+    (λ c. omega arith)
     loop-again
-    same-length
+    (λ c. omega arith)
     returns-2
-    same-length-2
+    (λ c. omega arith)
     returns-3)

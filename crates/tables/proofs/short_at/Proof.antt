@@ -6,8 +6,5 @@ use borrow.Author.Needs.{needs}
 use Rattle.tables.proofs.short_at.Statement.{statement}
 use Rattle.tables.proofs.short_at.Tie as tie
 
-returns-2 : tie.Need-returns-2
-returns-2 c = sym (List·getD-eq-default (c .before .args .t .now) 0 (c .if1 .left))
-
 pub short-at-spec : {M : Type 1} → statement M
-short-at-spec = tie.close (tie.spec (λ c. search needs) (λ c. search needs) (λ c. search needs) returns-2)
+short-at-spec = tie.close (tie.spec (λ c. search needs) (λ c. search needs) (λ c. search needs) (λ c. sym (List·getD-eq-default (c .before .args .t .now) 0 (c .if1 .left))))

@@ -20,9 +20,6 @@ Inv-loop d t₀ n i₀ t i =
 abbrev μ-loop : tie.MeasureT-loop
 μ-loop d t₀ n i₀ t i = n - i
 
-loop-holds : tie.Need-loop-holds Inv-loop μ-loop
-loop-holds c = (search needs, (search needs, below-none _))
-
 loop-again : tie.Need-loop-again Inv-loop μ-loop
 unfolding num
 loop-again c =
@@ -49,7 +46,7 @@ unpack-spec =
     (tie.spec
     Inv-loop
     μ-loop
-    loop-holds
+    (λ c. (search needs, (search needs, below-none _)))
     (λ c. let p = c .before .before .before .before .pre .0 .inside in omega arith)
     (λ c. let p = c .before .before .before .before .before .pre .0 .inside in omega arith)
     (λ c. let p = c .before .before .before .before .before .pre .0 .inside in omega arith)
