@@ -1,27 +1,10 @@
 /* `sheet DESCRIPTION RECORDS`: the sheet of a record file, by the calls for C. An example, and a test of the header. */
-#include <stdio.h>
-#include <stdlib.h>
 #include <string.h>
 
 #include "bailcurlew.h"
-
-/* No call of a description within the limits prints more: 28 groups of 16 lines, and at most two page
- * changes, with a heading and a footing of 16 lines each, for every body group of a call (17); 142 bytes a line. */
-enum { ROOM = (28 * 16 + 17 * 2 * 2 * 16) * 142 };
+#include "files.h"
 
 static uint8_t description[65536], records[1 << 20], output[ROOM];
-
-static size_t read_file(const char *name, uint8_t *bytes, size_t room)
-{
-    FILE *file = fopen(name, "rb");
-    if (file == NULL) {
-        perror(name);
-        exit(1);
-    }
-    size_t length = fread(bytes, 1, room, file);
-    fclose(file);
-    return length;
-}
 
 /* Writes what an accepted call printed; a refusal ends the program. */
 static void settle(const char *call, const uint64_t answer[3])
@@ -32,12 +15,6 @@ static void settle(const char *call, const uint64_t answer[3])
         exit(1);
     }
     fwrite(output, 1, (size_t)answer[BAILCURLEW_COUNT], stdout);
-}
-
-/* R stands last but one in the trailer. */
-static size_t record_length(size_t length)
-{
-    return description[length - 4] + 256u * description[length - 3];
 }
 
 int main(int argc, char **argv)
@@ -57,7 +34,7 @@ int main(int argc, char **argv)
     bailcurlew_fresh(state);
     bailcurlew_initiate(description, length, state, answer);
     settle("INITIATE", answer);
-    for (size_t at = 0, step = record_length(length); at < end; at += step) {
+    for (size_t at = 0, step = record_length(description, length); at < end; at += step) {
         size_t left = end - at < step ? end - at : step;
         bailcurlew_generate(description, length, state, 0, records + at, left, output, sizeof output, answer);
         settle("GENERATE", answer);

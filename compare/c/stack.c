@@ -2,30 +2,17 @@
  * thread whose stack is painted beforehand; what a thread without a call touches is taken off. */
 #define _XOPEN_SOURCE 600
 #include <pthread.h>
-#include <stdio.h>
-#include <stdlib.h>
 #include <string.h>
 
 #include "bailcurlew.h"
+#include "files.h"
 
-enum { STACK = 1 << 20, PAINT = 0xa5, ROOM = (28 * 16 + 17 * 2 * 2 * 16) * 142 };
+enum { STACK = 1 << 20, PAINT = 0xa5 };
 
 static uint8_t description[65536], records[1 << 20], output[ROOM], state[BAILCURLEW_STATE];
 static uint64_t answer[3];
 static size_t length, step, at;
 static uint8_t *painted;
-
-static size_t read_file(const char *name, uint8_t *bytes, size_t room)
-{
-    FILE *file = fopen(name, "rb");
-    if (file == NULL) {
-        perror(name);
-        exit(1);
-    }
-    size_t count = fread(bytes, 1, room, file);
-    fclose(file);
-    return count;
-}
 
 static void *nothing(void *unused)
 {
@@ -96,7 +83,7 @@ int main(int argc, char **argv)
     }
     length = read_file(argv[1], description, sizeof description);
     size_t end = read_file(argv[2], records, sizeof records);
-    step = description[length - 4] + 256u * description[length - 3];
+    step = record_length(description, length);
     expect(posix_memalign(&memory, 4096, STACK) == 0, "posix_memalign");
     painted = memory;
 
