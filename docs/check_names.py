@@ -1,17 +1,19 @@
 #!/usr/bin/env python3
-"""Fails where docs/AUDIT.md or docs/PROMISES.md names what is not there, where a line that AUDIT.md quotes is not there, or where
-its reading list is not what its claims rest on.
+"""Fails where docs/AUDIT.md, docs/PROMISES.md or docs/DECISIONS.md names what is not there, where a line that AUDIT.md quotes is
+not there, where its reading list is not what its claims rest on, or where README.md, DECISIONS.md, crates.txt and the folder crates/ tell
+different stories of the layers and their crates.
 
 usage: docs/check_names.py [--fix]     (--fix writes the numbers of lines into AUDIT.md)
 
 A name is text in backquotes: `crate/specs/File.name`, `crate/proofs/File.name`, a file without `.name`, `crate::function` or
 `crate::Type::function`. The reading list: every definition file that the roots import, one row each with its number of lines,
-which are those that are neither empty nor an import. A row whose first cell is a quotation has the place and a line of it."""
+which are those that are neither empty nor an import. A row whose first cell is a quotation has the place and a line of it. The layers:
+crates.txt has them as headings, README.md as rows of a table, DECISIONS.md as a list in A-2."""
 import glob, os, re, sys
 
 root = os.path.dirname(os.path.dirname(os.path.abspath(__file__)))
 os.chdir(root)
-DOCS = ["docs/AUDIT.md", "docs/PROMISES.md"]
+DOCS = ["docs/AUDIT.md", "docs/PROMISES.md", "docs/DECISIONS.md"]
 FILE = re.compile(r"`([a-z0-9_]+)/(specs|proofs)/([A-Za-z0-9_]+)(?:\.([^`\s]+))?`")
 FUNCTION = re.compile(r"`([a-z0-9_]+)::((?:[A-Za-z0-9_]+::)*)([a-z0-9_]+)`")
 IMPORT = re.compile(r"^use Rattle·([a-z0-9_]+?)(?:·specs)?\.specs\.([A-Za-z0-9_]+)", re.M)
@@ -100,6 +102,36 @@ def check_list(fix):
         faults.append(f"{DOCS[0]}: the reading list has {len(wanted)} files, {total:,} lines (--fix)")
 
 
+def layers():
+    """crates.txt: each layer with its crates, in order."""
+    found = []
+    for line in read("crates.txt").splitlines():
+        if line.startswith("# ---- "):
+            found.append((line[7:].split(":")[0].lower(), []))
+        elif re.match(r"[a-z0-9_]+:", line):
+            found[-1][1].append(line.split(":")[0])
+    return found
+
+
+def check_layers():
+    wanted = layers()
+    names = lambda text: re.findall(r"`([a-z0-9_]+)`", text)
+    table = read("README.md").partition("| Layer | Crates |")[2].partition("\n\n")[0]
+    rows = re.findall(r"^\| ([a-z][^|]*) \| (.*) \|$", table, re.M)
+    items = read("docs/DECISIONS.md").partition("**A-2.")[2].partition("\nReason:")[0].partition("\n\n- ")[2]
+    parts = [item.partition(":") for item in items.split("\n- ")]
+    for place, told in [("README.md", rows), ("docs/DECISIONS.md, A-2", [(a, c) for a, _, c in parts])]:
+        story = [(layer.lower(), names(text)) for layer, text in told]
+        for mine, theirs in zip(wanted, story):
+            if mine != theirs:
+                faults.append(f"{place}: {theirs[0]}: {' '.join(theirs[1])}; crates.txt: {mine[0]}: {' '.join(mine[1])}")
+        if len(wanted) != len(story):
+            faults.append(f"{place}: {len(story)} layers; crates.txt: {len(wanted)}")
+    listed, there = {name for _, crates in wanted for name in crates}, set(os.listdir("crates"))
+    for name in sorted(listed ^ there):
+        faults.append(f"crates.txt: {name}: " + ("no such folder" if name in listed else "not listed"))
+
+
 def main():
     if sys.argv[1:] not in ([], ["--fix"]):
         sys.exit(__doc__)
@@ -112,6 +144,7 @@ def main():
             if m[1] != "crate":
                 check_function(doc, *m.groups())
     check_lines()
+    check_layers()
     check_list(sys.argv[1:] == ["--fix"])
     for fault in sorted(set(faults)):
         print(fault, file=sys.stderr)
