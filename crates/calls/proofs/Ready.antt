@@ -118,8 +118,8 @@ module _ (h : Head) (t lits : List ℕ) (A : Accepted h t lits) where
     kept-in : Formed h t (s .kept)
     kept-in = running-formed h t s testable (S .sized) facts
 
-    good : GoodSums (h .counters) (s .sums)
-    good = record {
+    pub running-good : GoodSums (h .counters) (s .sums)
+    running-good = record {
       range = facts .inRange;
       long = S .sized .sumsLong;
       beyond = λ i m. by-test (ltb i 32) (λ q. facts .beyondSums i m (ltb-true i 32 q)) (λ q. List·getD-eq-default (s .sums) (pos 0) (omega (arith, ltb-false i 32 q, S .sized .sumsLong)));
@@ -132,7 +132,7 @@ module _ (h : Head) (t lits : List ℕ) (A : Accepted h t lits) where
     last-called = called (lastPlan h) (placeOf s) last-planned (facts .last)
 
     pub last-long : length (totalsLast h t (s .sums) .shown) ≡ 32
-    last-long = last-good h t (A .countersIn .few) (s .sums) good .long
+    last-long = last-good h t (A .countersIn .few) (s .sums) running-good .long
 
     pub last-printable : Printable h t (reading lits (s .kept) (s .kept) (totalsLast h t (s .sums) .shown) false noPrefix)
     last-printable = printable (s .kept) (s .kept) (totalsLast h t (s .sums) .shown) false kept-in kept-in last-long
@@ -149,7 +149,7 @@ module _ (h : Head) (t lits : List ℕ) (A : Accepted h t lits) where
       later-called b g m l = called (laterPlan h b g) (placeOf s) (later-planned b g m l) (facts .last)
 
       pub later-long : (b : ℕ) → length (totalsLater h t row d b (s .sums) .shown) ≡ 32
-      later-long b = later-good h t (A .countersIn .few) (s .sums) good row d b .long
+      later-long b = later-good h t (A .countersIn .few) (s .sums) running-good row d b .long
 
       pub later-printable : (b : ℕ) (flag : Bool) → Printable h t (reading lits (s .kept) row (totalsLater h t row d b (s .sums) .shown) flag noPrefix)
       later-printable b flag =

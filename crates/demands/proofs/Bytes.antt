@@ -19,25 +19,26 @@ use Rattle.accepted.specs.Accepted as facts
 use Rattle.accepted.proofs.Accept.{accepted}
 use Rattle.sums.specs.Sums.{sumsOk}
 use Rattle.pagination.specs.All.{All}
-use Rattle.state.proofs.States.{by-phase}
+use Rattle.state.proofs.States.{idle-facts, started-facts, running-facts, by-phase}
 use Rattle.state.specs.declared.State.{State}
 use Rattle.refusals.specs.Verdict.{number}
 use Rattle.state.specs.State.{freshAt}
 use Rattle.calls.specs.Result.{Result}
+use Rattle.calls.specs.declared.Asked.the-variants.{Initiate, Generate, Terminate}
+use Rattle.calls.specs.Facts.{Stands}
+use Rattle.calls.proofs.Ready.{zeros-good}
+use Rattle.every_call.proofs.Rules.{fresh-stands, call-stands}
+use Rattle.report.specs.Calls as calls
 use Rattle.state_bytes.specs.Bytes.{bytesOf, stateOf}
 use Rattle.state_bytes.proofs.Laws.{length-bytes}
 use Rattle.state_bytes.proofs.Again.{state-again, in-bytes}
 use Rattle.report_c.specs.Leaves.{stored, Leaves}
-use Rattle.book.specs.Book.{Book, freshBook, enter}
+use Rattle.book.specs.Book.{Call, initiate, generate, terminate}
 use Rattle.book.specs.Demand.{Use, answer, taken, Done, did, run, printed}
-use Rattle.book.proofs.Laws.{Laws}
-use Rattle.book.proofs.Supply.{laws}
-use Rattle.book.proofs.Calls.{Tracks, call-ok, fresh-tracks}
 use Rattle.book.proofs.Theorem.{demand3}
 use Rattle.demands.specs.Calls.{Refuses, next, Works}
 use Rattle.demands.specs.Bytes.{Left, printedBytes, leaving, leaves, runBytes, RefusesBytes, WorksBytes, Demand1Bytes, written, Demand3Bytes}
 use Rattle.demands.proofs.Calls.{whole, refusal}
-use Rattle.demands.proofs.Sizes.{Lengths, fresh-sized, sized}
 
 -- a call with a number above 0 was not accepted
 not-accepted : (n : ℕ) → 1 ≤ n → eqb n 0 ≡ false
@@ -83,50 +84,47 @@ module _ (d : List ℕ) where
     A : facts.Accepted h t (literals d)
     A = accepted d a
 
-    L : Laws h t
-    L = laws h t (literals d) A
-
-    abbrev Tracked : State → Book → Type 0
-    Tracked s b = Tracks d a A L s b
-
-    in-range : (s : State) (b : Book) → Tracked s b → sumsOk (s .sums) ≡ true
-    in-range s b T =
-        by-phase h t s (T .kept) (λ e. L .idle-facts s e (T .kept) .sumsIn)
-        (λ e. rw (T .begins e .0) (L .zero-sums .range))
-        (λ e. L .run-facts s e (T .kept) .sumsIn)
+    in-range : (s : State) → Stands h t (literals d) s → sumsOk (s .sums) ≡ true
+    in-range s S =
+        by-phase h t s (S .rules) (λ e. idle-facts h t s e (S .rules) .inRange)
+        (λ e. rw (started-facts h t s (S .sized) e (S .rules)) (zeros-good (h .counters) .range))
+        (λ e. running-facts h t s e (S .rules) .inRange)
 
     -- a state that the run hands on, read from its bytes, is the state
-    read-back : (s : State) (b : Book) → Tracked s b → Lengths s → stateOf (bytesOf s) ≡ s
-    read-back s b T z = state-again s (in-bytes s (T .sumsLong) (z .flags) (in-range s b T))
+    read-back : (s : State) → Stands h t (literals d) s → stateOf (bytesOf s) ≡ s
+    read-back s S = state-again s (in-bytes s (S .sized .sumsLong) (S .sized .flagsLong) (in-range s S))
 
     stored-next : (s : State) (u : Use) → stored (bytesOf s) (did d s u .result .answer) ≡ bytesOf (did d s u .result .answer .state)
     stored-next s u =
         by-test (taken d (did d s u .result)) (λ e. rw e refl)
         (λ e. rw e (sym (ap bytesOf (refusal d s (u .out) (u .call) e .state))))
 
-    step : (s : State) (b : Book) → Tracked s b → Lengths s → (u : Use) → leaves d (bytesOf s) u ≡ written d (did d s u)
-    step s b T z u =
-        ap (λ (x : State). leaving (bytesOf s) (answer d x (u .call) (u .out))) (read-back s b T z)
+    step : (s : State) → Stands h t (literals d) s → (u : Use) → leaves d (bytesOf s) u ≡ written d (did d s u)
+    step s S u =
+        ap (λ (x : State). leaving (bytesOf s) (answer d x (u .call) (u .out))) (read-back s S)
         ∙ ap (λ (x : List ℕ). record { state = x; out = did d s u .result .out; numbers = written d (did d s u) .numbers }) (stored-next s u)
 
     -- what a call hands on
-    next-tracked : (s : State) (b : Book) (T : Tracked s b) (u : Use) → Tracked (did d s u .result .answer .state) (enter h t b (u .call) (taken d (did d s u .result)) .next)
-    next-tracked s b T u = call-ok d a A L s b T (u .out) (u .call) .next
+    next-stands : (s : State) → Stands h t (literals d) s → (c : Call) (out : List ℕ) → Stands h t (literals d) (answer d s c out .answer .state)
+    unfolding calls.call
+    next-stands s S initiate out = rw a (call-stands h t (literals d) A s S out Initiate [])
+    next-stands s S (generate i row) out = rw a (call-stands h t (literals d) A s S out (Generate i) row)
+    next-stands s S terminate out = rw a (call-stands h t (literals d) A s S out Terminate [])
 
-    runs : (us : List Use) (s : State) (b : Book) → Tracked s b → Lengths s → runBytes d (bytesOf s) us ≡ map (written d) (run d s us)
+    runs : (us : List Use) (s : State) → Stands h t (literals d) s → runBytes d (bytesOf s) us ≡ map (written d) (run d s us)
     unfolding runBytes run
-    runs [] s b T z = refl
-    runs (u ∷ us) s b T z =
-        let e = step s b T z u in
-        ap₂ _∷_ e (ap (λ (l : Left). runBytes d (l .state) us) e ∙ runs us (did d s u .result .answer .state) _ (next-tracked s b T u) (sized d s (u .out) z (u .call)))
+    runs [] s S = refl
+    runs (u ∷ us) s S =
+        let e = step s S u in
+        ap₂ _∷_ e (ap (λ (l : Left). runBytes d (l .state) us) e ∙ runs us (did d s u .result .answer .state) (next-stands s S (u .call) (u .out)))
 
-    longs : (us : List Use) (s : State) (b : Book) → Tracked s b → Lengths s → All (λ l. length (l .state) ≡ 530) (map (written d) (run d s us))
+    longs : (us : List Use) (s : State) → Stands h t (literals d) s → All (λ l. length (l .state) ≡ 530) (map (written d) (run d s us))
     unfolding run
-    longs [] s b T z = tt
-    longs (u ∷ us) s b T z =
-        let T2 = next-tracked s b T u in
-        let z2 = sized d s (u .out) z (u .call) in
-        (length-bytes _ (replicate 530 0) (length-replicate {A = ℕ} 530 0) (z2 .flags) (T2 .sumsLong) (z2 .kept), longs us (did d s u .result .answer .state) _ T2 z2)
+    longs [] s S = tt
+    longs (u ∷ us) s S =
+        let S2 = next-stands s S (u .call) (u .out) in
+        let z = S2 .sized in
+        (length-bytes _ (replicate 530 0) (length-replicate {A = ℕ} 530 0) (z .flagsLong) (z .sumsLong) (z .keptLong), longs us (did d s u .result .answer .state) S2)
 
     printed-written : (xs : List (Done d)) → printedBytes (map (written d) xs) ≡ printed d xs
     unfolding printedBytes printed
@@ -135,11 +133,11 @@ module _ (d : List ℕ) where
 
     pub demand3-bytes : (us : List Use) → Demand3Bytes d us
     demand3-bytes us =
-        let T = fresh-tracks d a A L in
-        let e = runs us (freshAt 0) freshBook T (fresh-sized 0) in
+        let S = fresh-stands h t (literals d) A in
+        let e = runs us (freshAt 0) S in
         record {
           same = e;
-          long = rw e (longs us (freshAt 0) freshBook T (fresh-sized 0));
+          long = rw e (longs us (freshAt 0) S);
           prints = ap printedBytes e ∙ printed-written (run d (freshAt 0) us);
           demand3 = demand3 d a us;
         }

@@ -7,11 +7,9 @@ use mathlib.Core.List.{List, [], _∷_}
 use mathlib.Core.Logic.{_⊎_, inl, inr, ⊎-elim}
 use native.Mathlib.Nat.{zero-add}
 use native.Mathlib.Omega.{arith}
-use borrow.Author.Tests.{ltb-false}
 use lib.Dec.{eqb}
 use lib.ListN.{length}
 use Rattle.counts.proofs.Laws.{by-test}
-use Rattle.splice.specs.Splice.{splice}
 use Rattle.splice.proofs.Laws.{length-splice, drop-splice}
 use Rattle.tables.specs.declared.Head.{Head}
 use Rattle.tables.specs.Head.{headOf}
@@ -19,21 +17,21 @@ use Rattle.tables.specs.Table.{table, literals}
 use Rattle.description.specs.declared.Checked.the-variants.{Accepted}
 use Rattle.description.specs.Check.{checked}
 use Rattle.accepted.proofs.Accept.{accepted}
-use Rattle.compose.specs.Facts.{ItemsIn}
 use Rattle.layout.specs.Lines.{lineTotal}
-use Rattle.printed.specs.Printed.{noPrefix, Short}
+use Rattle.printed.specs.Printed.{Short}
 use Rattle.printed.proofs.Laws.{no-prefix-short}
 use Rattle.call_text.specs.Bytes.{dueBytes, byteCount}
-use Rattle.pages.specs.Outcome.{pastLast, tooShort, outcome, written}
-use Rattle.call_text.proofs.Bytes.{GroupsIn, in-layout, length-dueBytes, printed-part}
-use Rattle.state.specs.State.{started}
+use Rattle.call_text.proofs.Bytes.{length-dueBytes, printed-part}
+use Rattle.state.specs.State.{started, running}
 use Rattle.state.specs.declared.State.{State}
 use Rattle.refusals.specs.declared.Verdict.{Verdict}
 use Rattle.refusals.specs.declared.Verdict.the-variants as verdict
 use Rattle.refusals.specs.Verdict.{number}
 use Rattle.state.specs.State.{freshAt}
 use Rattle.calls.specs.Result.{Result, refuse, Work, moved, settled}
-use Rattle.calls.specs.Calls.{firstWork, laterWork, rowWork, lastWork}
+use Rattle.calls.specs.Calls.{rowWork, lastWork}
+use Rattle.every_call.proofs.Settles.{byteTotal, printed as bytesPrinted, each-settled}
+use Rattle.every_call.proofs.Shows.{Shows, first-shows, later-shows, last-shows}
 use Rattle.book.specs.Book.{Call, generate, terminate}
 use Rattle.book.specs.Demand.{Use, answer, reads, taken, run, printed}
 use Rattle.demands.specs.Calls.{Refuses, work, next, Works, Demand1}
@@ -57,53 +55,45 @@ module _ (d : List ℕ) (s : State) (out : List ℕ) where
   silent c phase e n = inl (record { accepted = refl; state = sym n; lines = rw e refl; count = rw e (omega arith); room = omega arith; size = refl; rest = refl })
 
   -- a call that prints: 7, 8 and 9, else its lines
-  module _ (c : Call) (w : Work) (items : ItemsIn h t (w .inputs .lits)) (plain : w .inputs .prefix ≡ noPrefix) (groups : GroupsIn h (w .laid .dues)) (r : reads d s c ≡ w .inputs) (e : work d s c ≡ w .laid .dues) (n : next d s c ≡ moved w (w .laid .to)) where
+  module _ (c : Call) (w : Work) (shows : Shows h t w) (r : reads d s c ≡ w .inputs) (e : work d s c ≡ w .laid .dues) (n : next d s c ≡ moved w (w .laid .to)) where
     short : Short (w .inputs .prefix)
-    short = rw plain no-prefix-short
+    short = rw (shows .plain) no-prefix-short
 
     abbrev bytes : List ℕ
     bytes = dueBytes h t (w .inputs) (w .laid .dues)
 
-    long : length bytes ≡ byteCount h t (w .inputs .prefix) (w .laid .dues)
-    long = length-dueBytes h t (w .inputs) items short groups
+    long : length bytes ≡ byteTotal h t s w out
+    long = length-dueBytes h t (w .inputs) (shows .items) short (shows .groups)
 
-    done : byteCount h t (w .inputs .prefix) (w .laid .dues) ≤ length out → Whole c (record { answer = record { verdict = verdict.Accepted; count = byteCount h t (w .inputs .prefix) (w .laid .dues); state = moved w (w .laid .to) }; out = splice out 0 bytes })
+    done : byteTotal h t s w out ≤ length out → Whole c (bytesPrinted h t s w out)
     done l = inl (record {
       accepted = refl;
       state = sym n;
-      lines = rw (r, e) (printed-part h t (w .inputs) items short groups out);
-      count = rw (e, plain) refl;
+      lines = rw (r, e) (printed-part h t (w .inputs) (shows .items) short (shows .groups) out);
+      count = rw (e, shows .plain) refl;
       room = l;
       size = length-splice out 0 bytes (omega (arith, long));
       rest = rw (← long) (rw (zero-add (length bytes)) at (drop-splice out 0 bytes (omega arith)));
     })
 
     settles : Whole c (settled h t s w out)
-    unfolding settled outcome written
-    settles =
-        by-test (w .ok)
-        (λ o. by-test (pastLast (w .laid))
-        (λ p. rw (o, p) (refused c verdict.Pages (omega arith) (omega arith)))
-        (λ p. by-test (tooShort h t (w .inputs .prefix) (length out) (w .laid))
-        (λ q. rw (o, p, q) (refused c verdict.Room (omega arith) (omega arith)))
-        (λ q. rw (o, p, q) (done (ltb-false (length out) (byteCount h t (w .inputs .prefix) (w .laid .dues)) q)))))
-        (λ o. rw o (refused c verdict.Sum (omega arith) (omega arith)))
+    settles = each-settled h t s w out (Whole c) (λ v l m. refused c v (omega arith) m) (λ o l q. done q)
 
-  row-works : checked d ≡ Accepted → (i : ℕ) (row : List ℕ) → length row ≡ h .reclen → Whole (generate i row) (settled h t s (rowWork h t (literals d) s i row) out)
-  unfolding firstWork laterWork
-  row-works a i row l =
+  row-works : checked d ≡ Accepted → (i : ℕ) (row : List ℕ) → Whole (generate i row) (settled h t s (rowWork h t (literals d) s i row) out)
+  row-works a i row =
       let w = rowWork h t (literals d) s i row in
-      let items = accepted d a .itemsIn in
+      let A = accepted d a in
       by-test (eqb (s .phase) started)
-      (λ e. settles (generate i row) w (rw e items) (rw e refl) (rw e (in-layout h t _ _)) refl refl refl)
-      (λ e. settles (generate i row) w (rw e items) (rw e refl) (rw e (in-layout h t _ _)) refl refl refl)
+      (λ e. settles (generate i row) w (rw e (first-shows h t (literals d) A s i row)) refl refl refl)
+      (λ e. settles (generate i row) w (rw e (later-shows h t (literals d) A s i row)) refl refl refl)
 
-  last-works : checked d ≡ Accepted → eqb (s .phase) started ≡ false → Whole terminate (settled h t s (lastWork h t (literals d) s) out)
-  unfolding lastWork
-  last-works a e = settles terminate (lastWork h t (literals d) s) (accepted d a .itemsIn) refl (in-layout h t _ _) refl (rw e refl) (rw e refl)
+  last-works : checked d ≡ Accepted → s .phase ≡ running → Whole terminate (settled h t s (lastWork h t (literals d) s) out)
+  last-works a e =
+      let q : eqb (s .phase) started ≡ false = rw e refl in
+      settles terminate (lastWork h t (literals d) s) (last-shows h t (literals d) (accepted d a) s) refl (rw q refl) (rw q refl)
 
   pub whole : (c : Call) → Whole c (answer d s c out)
-  whole = each-call d s out Whole (record { no = refused; silent = silent; row = row-works; last = last-works })
+  whole = each-call d s out Whole (record { refused = refused; silent = silent; row = row-works; last = last-works })
 
   -- a call that was not accepted is a refusal
   pub refusal : (c : Call) → taken d (answer d s c out) ≡ false → Refuses s out (answer d s c out)

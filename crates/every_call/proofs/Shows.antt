@@ -1,0 +1,31 @@
+-- What the work of each call prints can be shown: every item, with no prefix, of groups that the description has.
+-- Assumes nothing.
+use Prim.Native.Nat.{ℕ}
+use mathlib.Core.Path.{_≡_, refl}
+use mathlib.Core.List.{List}
+use Rattle.tables.specs.declared.Head.{Head}
+use Rattle.printed.specs.Printed.{noPrefix}
+use Rattle.compose.specs.Facts.{ItemsIn}
+use Rattle.call_text.proofs.Bytes.{GroupsIn, in-layout}
+use Rattle.accepted.specs.Accepted.{Accepted}
+use Rattle.state.specs.declared.State.{State}
+use Rattle.calls.specs.Result.{Work}
+use Rattle.calls.specs.Calls.{firstWork, laterWork, lastWork}
+
+pub record Shows (h : Head) (t : List ℕ) (w : Work) : Type 0 where
+  pub items : ItemsIn h t (w .inputs .lits)
+  pub plain : w .inputs .prefix ≡ noPrefix
+  pub groups : GroupsIn h (w .laid .dues)
+
+module _ (h : Head) (t lits : List ℕ) (A : Accepted h t lits) (s : State) where
+  pub first-shows : (i : ℕ) (row : List ℕ) → Shows h t (firstWork h t lits s i row)
+  unfolding firstWork
+  first-shows i row = record { items = A .itemsIn; plain = refl; groups = in-layout h t _ _ }
+
+  pub later-shows : (i : ℕ) (row : List ℕ) → Shows h t (laterWork h t lits s i row)
+  unfolding laterWork
+  later-shows i row = record { items = A .itemsIn; plain = refl; groups = in-layout h t _ _ }
+
+  pub last-shows : Shows h t (lastWork h t lits s)
+  unfolding lastWork
+  last-shows = record { items = A .itemsIn; plain = refl; groups = in-layout h t _ _ }
