@@ -22,7 +22,7 @@ use Rattle.shape.specs.Shape.{frameOf}
 use Rattle.state.specs.Kept.{paddedRow, flagsSet}
 use Rattle.state.specs.declared.State.{State}
 use Rattle.state.specs.State.{freshAt}
-use Rattle.state.specs.Rules.{stateOk}
+use Rattle.state_rules.specs.Rules.{stateOk}
 use Rattle.calls.specs.Result.{placeOf}
 
 -- sums, flags and kept bytes beyond the description's

@@ -10,11 +10,11 @@ use Rattle.lookup.specs.Find.{details}
 use Rattle.accepted.specs.Accepted.{Accepted}
 use Rattle.amounts.proofs.Good.{first-good, later-good, last-good}
 use Rattle.shape.specs.Shape.{frameOf}
-use Rattle.state.specs.Facts.{PageIn}
-use Rattle.state.proofs.States.{idle-facts, idle-ok, started-ok, running-facts, running-ok, by-phase}
+use Rattle.state_rules.specs.Facts.{PageIn}
+use Rattle.state_rules.proofs.States.{idle-facts, idle-ok, started-ok, running-facts, running-ok, by-phase}
 use Rattle.state.proofs.Kept.{padded-zero, padded-formed, padded-controls, flagsSet-beyond}
 use Rattle.state.specs.declared.State.{State}
-use Rattle.state.specs.Rules.{stateOk}
+use Rattle.state_rules.specs.Rules.{stateOk}
 use Rattle.calls.proofs.Ready.{zeros-good}
 use Rattle.book.proofs.Laws.{RunFacts, IdleFacts, Laws}
 

@@ -30,9 +30,9 @@ use Rattle.layout.specs.Facts.{Called}
 use Rattle.call_text.specs.Facts.{Printable}
 use Rattle.state.specs.declared.State.{State}
 use Rattle.state.specs.State.{started, running, freshAt}
-use Rattle.state.specs.Facts.{Testable, RunningState}
+use Rattle.state_rules.specs.Facts.{Testable, RunningState}
 use Rattle.state.specs.Kept.{paddedRow}
-use Rattle.state.proofs.States.{started-facts, running-facts, running-formed}
+use Rattle.state_rules.proofs.States.{started-facts, running-facts, running-formed}
 use Rattle.state.proofs.Kept.{padded-whole}
 use Rattle.accepted.specs.Accepted.{Accepted}
 use Rattle.accepted.proofs.Index.{detail-counted}

@@ -13,7 +13,7 @@ use Rattle.amounts.specs.Totals.{totalsFirst, totalsLater, totalsLast}
 use Rattle.plan.specs.Plan.{firstPlan, laterPlan, lastPlan}
 use Rattle.state.specs.declared.State.{State}
 use Rattle.state.specs.State.{idle, started, running, freshAt}
-use Rattle.state.specs.Rules.{stateOk}
+use Rattle.state_rules.specs.Rules.{stateOk}
 use Rattle.state.specs.Kept.{paddedRow, flagsSet}
 use Rattle.refusals.specs.declared.Tried.{Tried}
 use Rattle.refusals.specs.declared.Tried.the-variants.{Passed, Refused}

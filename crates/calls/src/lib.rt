@@ -321,7 +321,7 @@ pub fn call_on(
     requires { ⌜ Accepted h (now t) (now lits) ⌝ }
     ensures { λ r. ⌜ Returns (callOn h (now (t .entry)) (now (lits .entry)) s asked (now (rec .entry)) (now (out .entry))) r (now (out .exit)) ⌝ }
 {
-    let ok = state::state_ok(t, h, s);
+    let ok = state_rules::state_ok(t, h, s);
     let tests = tried(t, h, ok, s.phase, asked, rec);
     match tests {
         Tried::Refused(v) => refusal(s, v),

@@ -19,7 +19,7 @@ use Rattle.accepted.specs.Accepted as facts
 use Rattle.accepted.proofs.Accept.{accepted}
 use Rattle.sums.specs.Sums.{sumsOk}
 use Rattle.pagination.specs.All.{All}
-use Rattle.state.proofs.States.{by-phase}
+use Rattle.state_rules.proofs.States.{by-phase}
 use Rattle.state.specs.declared.State.{State}
 use Rattle.refusals.specs.Verdict.{number}
 use Rattle.state.specs.State.{freshAt}

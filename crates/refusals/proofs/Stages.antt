@@ -14,8 +14,8 @@ use Rattle.rows.specs.Fields.{formed, firstMalformed}
 use Rattle.rows.proofs.Fields.{first-malformed}
 use Rattle.state.specs.declared.State as state
 use Rattle.state.specs.State.{idle, started, running}
-use Rattle.state.specs.Rules.{stateOk}
-use Rattle.state.proofs.States.{by-phase}
+use Rattle.state_rules.specs.Rules.{stateOk}
+use Rattle.state_rules.proofs.States.{by-phase}
 use Rattle.refusals.specs.declared.Verdict.{Verdict}
 use Rattle.refusals.specs.declared.Verdict.the-variants.{State, Phase, Detail, Length, Field}
 use Rattle.refusals.specs.declared.Tried.{Tried}

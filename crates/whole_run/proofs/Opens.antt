@@ -42,7 +42,7 @@ use Rattle.layout.specs.Lines as layout-Lines
 use Rattle.call_text.specs.Bytes as call-text-Bytes
 use Rattle.pages.specs.Outcome as pages-Outcome
 use Rattle.state.specs.Kept as state-Kept
-use Rattle.state.specs.Rules as state-Rules
+use Rattle.state_rules.specs.Rules as state-Rules
 use Rattle.report.specs.Calls as report-Calls
 use Rattle.refusals.specs.Stages as refusals-Stages
 use Rattle.calls.specs.Result as calls-Result
