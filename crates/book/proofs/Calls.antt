@@ -41,9 +41,9 @@ use Rattle.pagination.proofs.Calls.{DetailOk, first-placed, later-placed, last-
 use Rattle.state.specs.State.{idle, started, running}
 use Rattle.state.specs.Kept.{flagsSet}
 use Rattle.state.specs.declared.State.{State}
-use Rattle.refusals.specs.declared.Verdict.{Verdict}
-use Rattle.refusals.specs.declared.Verdict.the-variants as verdict
-use Rattle.refusals.specs.Verdict.{number}
+use Rattle.verdict.specs.declared.Verdict.{Verdict}
+use Rattle.verdict.specs.declared.Verdict.the-variants as verdict
+use Rattle.verdict.specs.Verdict.{number}
 use Rattle.state.specs.State.{freshAt}
 use Rattle.state_rules.specs.Rules.{stateOk}
 use Rattle.calls.specs.Result.{placeOf}

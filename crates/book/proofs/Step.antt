@@ -28,9 +28,9 @@ use Rattle.pagination.specs.Claims.{Sound, rankAt, Walk}
 use Rattle.pagination.proofs.Climbs.{all-map}
 use Rattle.pagination.proofs.Groups.{sound-none}
 use Rattle.state.specs.declared.State.{State}
-use Rattle.refusals.specs.declared.Verdict.{Verdict}
-use Rattle.refusals.specs.declared.Verdict.the-variants as verdict
-use Rattle.refusals.specs.Verdict.{number}
+use Rattle.verdict.specs.declared.Verdict.{Verdict}
+use Rattle.verdict.specs.declared.Verdict.the-variants as verdict
+use Rattle.verdict.specs.Verdict.{number}
 use Rattle.calls.specs.Result.{Result, refuse, Work, moved, settled}
 use Rattle.book.specs.Book.{Call, Book, dueFor, turned, enter}
 use Rattle.book.specs.Sheet.{sheetOf}

@@ -8,7 +8,7 @@ use Rattle.tables.specs.declared.Head.{Head}
 use Rattle.pages.specs.declared.Outcome.{Outcome}
 use Rattle.pages.specs.Facts.{Answered}
 use Rattle.state.specs.declared.State.{State}
-use Rattle.refusals.specs.declared.Verdict.the-variants.{Sum}
+use Rattle.verdict.specs.declared.Verdict.the-variants.{Sum}
 use Rattle.calls.specs.declared.Answer.{Answer}
 use Rattle.calls.specs.Result.{Work, moved, refusal, answered, settled, Returns}
 

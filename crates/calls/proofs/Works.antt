@@ -17,7 +17,7 @@ use Rattle.pages.specs.declared.Job.{Job}
 use Rattle.state.specs.declared.State.{State}
 use Rattle.state.specs.State.{idle, started, running, freshAt}
 use Rattle.state.specs.Kept.{paddedRow, flagsSet}
-use Rattle.refusals.specs.declared.Verdict.{Verdict}
+use Rattle.verdict.specs.declared.Verdict.{Verdict}
 use Rattle.refusals.specs.declared.Tried.the-variants.{Passed, Refused}
 use Rattle.refusals.specs.Facts.{Begun, RowIn}
 use Rattle.refusals.proofs.Stages.{begun, row-begun}

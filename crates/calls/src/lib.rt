@@ -21,10 +21,10 @@ use pages::Outcome;
 use place::Spot;
 use plan::Plan;
 use refusals::Tried;
-use refusals::Verdict;
 use state::State;
 use sums::Totals;
 use tables::Head;
+use verdict::Verdict;
 
 // What is asked of a report. The record of GENERATE is lent beside it.
 pub enum Asked {

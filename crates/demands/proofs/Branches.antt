@@ -20,9 +20,9 @@ use Rattle.description.specs.Check.{checked}
 use Rattle.rows.specs.Fields.{firstMalformed}
 use Rattle.state.specs.State.{idle, started}
 use Rattle.state.specs.declared.State.{State}
-use Rattle.refusals.specs.declared.Verdict.{Verdict}
-use Rattle.refusals.specs.declared.Verdict.the-variants as verdict
-use Rattle.refusals.specs.Verdict.{number}
+use Rattle.verdict.specs.declared.Verdict.{Verdict}
+use Rattle.verdict.specs.declared.Verdict.the-variants as verdict
+use Rattle.verdict.specs.Verdict.{number}
 use Rattle.state.specs.State.{freshAt}
 use Rattle.state_rules.specs.Rules.{stateOk}
 use Rattle.calls.specs.Result.{Result, refuse, settled}

@@ -21,7 +21,7 @@ use Rattle.sums.specs.Sums.{sumsOk}
 use Rattle.pagination.specs.All.{All}
 use Rattle.state_rules.proofs.States.{by-phase}
 use Rattle.state.specs.declared.State.{State}
-use Rattle.refusals.specs.Verdict.{number}
+use Rattle.verdict.specs.Verdict.{number}
 use Rattle.state.specs.State.{freshAt}
 use Rattle.calls.specs.Result.{Result}
 use Rattle.state_bytes.specs.Bytes.{bytesOf, stateOf}

@@ -28,9 +28,9 @@ use Rattle.pages.specs.Outcome.{pastLast, tooShort, outcome, written}
 use Rattle.call_text.proofs.Bytes.{GroupsIn, in-layout, length-dueBytes, printed-part}
 use Rattle.state.specs.State.{started}
 use Rattle.state.specs.declared.State.{State}
-use Rattle.refusals.specs.declared.Verdict.{Verdict}
-use Rattle.refusals.specs.declared.Verdict.the-variants as verdict
-use Rattle.refusals.specs.Verdict.{number}
+use Rattle.verdict.specs.declared.Verdict.{Verdict}
+use Rattle.verdict.specs.declared.Verdict.the-variants as verdict
+use Rattle.verdict.specs.Verdict.{number}
 use Rattle.state.specs.State.{freshAt}
 use Rattle.calls.specs.Result.{Result, refuse, Work, moved, settled}
 use Rattle.calls.specs.Calls.{firstWork, laterWork, rowWork, lastWork}

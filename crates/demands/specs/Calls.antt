@@ -13,7 +13,7 @@ use Rattle.printed.specs.Printed.{noPrefix}
 use Rattle.call_text.specs.Bytes.{dueBytes, byteCount}
 use Rattle.state.specs.State.{idle, started}
 use Rattle.state.specs.declared.State.{State}
-use Rattle.refusals.specs.Verdict.{number}
+use Rattle.verdict.specs.Verdict.{number}
 use Rattle.state.specs.State.{freshAt}
 use Rattle.calls.specs.Result.{Result, moved}
 use Rattle.calls.specs.Calls.{rowWork, lastWork}

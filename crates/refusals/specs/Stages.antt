@@ -10,7 +10,7 @@ use Rattle.rows.specs.Fields.{firstMalformed}
 use Rattle.state.specs.declared.State as state
 use Rattle.state.specs.State.{idle}
 use Rattle.state_rules.specs.Rules.{stateOk}
-use Rattle.refusals.specs.declared.Verdict.the-variants.{State, Phase, Detail, Length, Field}
+use Rattle.verdict.specs.declared.Verdict.the-variants.{State, Phase, Detail, Length, Field}
 use Rattle.refusals.specs.declared.Tried.{Tried}
 use Rattle.refusals.specs.declared.Tried.the-variants.{Passed, Refused}
 

@@ -15,7 +15,7 @@ use Rattle.description.proofs.Answer.{d1-passed}
 use Rattle.accepted.specs.Accepted as facts
 use Rattle.accepted.proofs.Accept.{accepted}
 use Rattle.state.specs.declared.State.{State}
-use Rattle.refusals.specs.declared.Verdict.the-variants.{Description}
+use Rattle.verdict.specs.declared.Verdict.the-variants.{Description}
 use Rattle.calls.specs.declared.Answer.{Answer}
 use Rattle.calls.specs.declared.Asked.{Asked}
 use Rattle.calls.specs.Result.{refusal, Returns}

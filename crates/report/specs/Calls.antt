@@ -7,7 +7,7 @@ use Rattle.description.specs.declared.Checked.{Checked}
 use Rattle.description.specs.declared.Checked.the-variants.{Accepted, Broken}
 use Rattle.description.specs.Check.{checked}
 use Rattle.state.specs.declared.State.{State}
-use Rattle.refusals.specs.declared.Verdict.the-variants.{Description}
+use Rattle.verdict.specs.declared.Verdict.the-variants.{Description}
 use Rattle.calls.specs.declared.Asked.{Asked}
 use Rattle.calls.specs.declared.Asked.the-variants.{Initiate, Generate, Terminate}
 use Rattle.calls.specs.Result.{Result, refuse}

@@ -11,8 +11,8 @@ use calls::Answer;
 use calls::Asked;
 use description::Checked;
 use file::Rule;
-use refusals::Verdict;
 use state::State;
+use verdict::Verdict;
 
 // One report: its state, which every call takes by value and gives back in its answer.
 pub struct Report {

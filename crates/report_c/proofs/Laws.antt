@@ -20,7 +20,7 @@ use Rattle.refusals.specs.Stages.{startTried}
 use Rattle.calls.specs.Calls.{unless, begun, callOn}
 use Rattle.report.specs.Calls.{ifAccepted, call, initiate}
 use Rattle.calls.specs.Result.{Result, Returns}
-use Rattle.refusals.specs.Verdict.{number}
+use Rattle.verdict.specs.Verdict.{number}
 use Rattle.state_bytes.specs.Bytes.{bytesOf}
 use Rattle.report_c.specs.Leaves.{stored, numbers, Leaves, Tells}
 

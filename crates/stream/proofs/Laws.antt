@@ -22,11 +22,11 @@ use Rattle.pages.specs.Outcome.{pastLast, tooShort, outcome, written}
 use Rattle.call_text.specs.Bytes.{dueBytes, byteCount}
 use Rattle.splice.specs.Splice.{splice}
 use Rattle.state.specs.declared.State.{State}
-use Rattle.refusals.specs.declared.Verdict.{Verdict}
-use Rattle.refusals.specs.declared.Verdict.the-variants.{Accepted, Description, State as BrokenState, Phase, Detail, Length, Field, Sum, Pages, Room}
+use Rattle.verdict.specs.declared.Verdict.{Verdict}
+use Rattle.verdict.specs.declared.Verdict.the-variants.{Accepted, Description, State as BrokenState, Phase, Detail, Length, Field, Sum, Pages, Room}
 use Rattle.refusals.specs.declared.Tried.{Tried}
 use Rattle.refusals.specs.declared.Tried.the-variants.{Passed, Refused}
-use Rattle.refusals.specs.Verdict.{number, accepted}
+use Rattle.verdict.specs.Verdict.{number, accepted}
 use Rattle.calls.specs.declared.Answer.{Answer}
 use Rattle.calls.specs.Result.{Result, Returns, Work, refuse, answered, moved, settled}
 use Rattle.refusals.specs.Stages.{rowTried}

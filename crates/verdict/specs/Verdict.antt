@@ -2,15 +2,13 @@
 use Prim.Native.Nat.{ℕ}
 use mathlib.Core.Bool.{Bool}
 use lib.Dec.{eqb}
-use Rattle.description.specs.declared.Checked.the-variants.{Broken}
-use Rattle.description.specs.Refusal.{number as numberChecked, extra as extraChecked}
-use Rattle.refusals.specs.declared.Verdict.{Verdict}
-use Rattle.refusals.specs.declared.Verdict.the-variants.{Accepted, Description, State, Phase, Detail, Length, Field, Sum, Pages, Room}
+use Rattle.verdict.specs.declared.Verdict.{Verdict}
+use Rattle.verdict.specs.declared.Verdict.the-variants.{Accepted, Description, State, Phase, Detail, Length, Field, Sum, Pages, Room}
 
 -- "Refusal numbers", the table; 0 where the call is accepted
 abbrev pub number : Verdict → ℕ
 number Accepted = 0
-number (Description rule) = numberChecked (Broken rule)
+number (Description rule) = 1
 number State = 2
 number Phase = 3
 number Detail = 4
@@ -26,7 +24,7 @@ accepted v = eqb (number v) 0
 -- "first broken rule, 1 to 8"; "first such field"; else 0
 abbrev pub extra : Verdict → ℕ
 extra Accepted = 0
-extra (Description rule) = extraChecked (Broken rule)
+extra (Description rule) = rule
 extra State = 0
 extra Phase = 0
 extra Detail = 0
