@@ -46,10 +46,11 @@ use Rattle.verdict.specs.declared.Verdict.the-variants as verdict
 use Rattle.verdict.specs.Verdict.{number}
 use Rattle.state.specs.State.{freshAt}
 use Rattle.state_rules.specs.Rules.{stateOk}
-use Rattle.calls.specs.Result.{placeOf}
-use Rattle.calls.specs.Result.{refuse, Work, moved, settled}
+use Rattle.answer.specs.Result.{placeOf, refuse}
+use Rattle.work.specs.Work.{Work, moved, settled}
+use Rattle.work.specs.Rows.{cleared, firstWork, flagsAt, breaks, laterWork, rowWork, lastWork}
+use Rattle.calls.specs.Calls.{begun, ended, callOn}
 use Rattle.refusals.specs.Stages.{recordTried}
-use Rattle.calls.specs.Calls.{cleared, firstWork, flagsAt, breaks, laterWork, rowWork, lastWork, begun, ended, callOn}
 use Rattle.report.specs.Calls as calls
 use Rattle.book.specs.Book.{Call, initiate, generate, terminate, Book, freshPos, freshBook, dueFor, turned, enter}
 use Rattle.book.specs.Sheet.{sheetOf}

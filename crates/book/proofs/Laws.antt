@@ -23,7 +23,7 @@ use Rattle.state.specs.Kept.{paddedRow, flagsSet}
 use Rattle.state.specs.declared.State.{State}
 use Rattle.state.specs.State.{freshAt}
 use Rattle.state_rules.specs.Rules.{stateOk}
-use Rattle.calls.specs.Result.{placeOf}
+use Rattle.answer.specs.Result.{placeOf}
 
 -- sums, flags and kept bytes beyond the description's
 abbrev pub SumsEnd : Head → List ℤ → Type 0

@@ -31,7 +31,8 @@ use Rattle.state.specs.declared.State.{State}
 use Rattle.verdict.specs.declared.Verdict.{Verdict}
 use Rattle.verdict.specs.declared.Verdict.the-variants as verdict
 use Rattle.verdict.specs.Verdict.{number}
-use Rattle.calls.specs.Result.{Result, refuse, Work, moved, settled}
+use Rattle.answer.specs.Result.{Result, refuse}
+use Rattle.work.specs.Work.{Work, moved, settled}
 use Rattle.book.specs.Book.{Call, Book, dueFor, turned, enter}
 use Rattle.book.specs.Sheet.{sheetOf}
 use Rattle.book.specs.Demand.{taken}

@@ -15,7 +15,7 @@ use Rattle.state_rules.proofs.States.{idle-facts, idle-ok, started-ok, running-
 use Rattle.state.proofs.Kept.{padded-zero, padded-formed, padded-controls, flagsSet-beyond}
 use Rattle.state.specs.declared.State.{State}
 use Rattle.state_rules.specs.Rules.{stateOk}
-use Rattle.calls.proofs.Ready.{zeros-good}
+use Rattle.work.proofs.Ready.{zeros-good}
 use Rattle.book.proofs.Laws.{RunFacts, IdleFacts, Laws}
 
 module _ (h : Head) (t lits : List ℕ) (A : Accepted h t lits) where

@@ -25,10 +25,12 @@ use Rattle.verdict.specs.declared.Verdict.the-variants as verdict
 use Rattle.verdict.specs.Verdict.{number}
 use Rattle.state.specs.State.{freshAt}
 use Rattle.state_rules.specs.Rules.{stateOk}
-use Rattle.calls.specs.Result.{Result, refuse, settled}
+use Rattle.answer.specs.Result.{Result, refuse}
+use Rattle.work.specs.Work.{settled}
+use Rattle.work.specs.Rows.{rowWork, lastWork}
+use Rattle.calls.specs.Calls.{callOn}
 use Rattle.refusals.specs.Stages.{recordTried}
 use Rattle.calls.specs.declared.Asked.the-variants as asked
-use Rattle.calls.specs.Calls.{rowWork, lastWork, callOn}
 use Rattle.report.specs.Calls.{ifAccepted}
 use Rattle.report.specs.Calls as calls
 use Rattle.book.specs.Book.{Call, initiate, generate, terminate}

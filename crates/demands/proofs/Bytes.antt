@@ -23,7 +23,7 @@ use Rattle.state_rules.proofs.States.{by-phase}
 use Rattle.state.specs.declared.State.{State}
 use Rattle.verdict.specs.Verdict.{number}
 use Rattle.state.specs.State.{freshAt}
-use Rattle.calls.specs.Result.{Result}
+use Rattle.answer.specs.Result.{Result}
 use Rattle.state_bytes.specs.Bytes.{bytesOf, stateOf}
 use Rattle.state_bytes.proofs.Laws.{length-bytes}
 use Rattle.state_bytes.proofs.Again.{state-again, in-bytes}

@@ -32,8 +32,9 @@ use Rattle.verdict.specs.declared.Verdict.{Verdict}
 use Rattle.verdict.specs.declared.Verdict.the-variants as verdict
 use Rattle.verdict.specs.Verdict.{number}
 use Rattle.state.specs.State.{freshAt}
-use Rattle.calls.specs.Result.{Result, refuse, Work, moved, settled}
-use Rattle.calls.specs.Calls.{firstWork, laterWork, rowWork, lastWork}
+use Rattle.answer.specs.Result.{Result, refuse}
+use Rattle.work.specs.Work.{Work, moved, settled}
+use Rattle.work.specs.Rows.{firstWork, laterWork, rowWork, lastWork}
 use Rattle.book.specs.Book.{Call, generate, terminate}
 use Rattle.book.specs.Demand.{Use, answer, reads, taken, run, printed}
 use Rattle.demands.specs.Calls.{Refuses, work, next, Works, Demand1}

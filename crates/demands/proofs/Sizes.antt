@@ -19,8 +19,8 @@ use Rattle.state.specs.Kept.{flagsSet}
 use Rattle.state.proofs.Kept.{length-flagsSet, length-padded}
 use Rattle.state.specs.declared.State.{State}
 use Rattle.state.specs.State.{freshAt}
-use Rattle.calls.specs.Result.{Work, settled}
-use Rattle.calls.specs.Calls.{cleared, breaks, firstWork, laterWork, rowWork, lastWork}
+use Rattle.work.specs.Work.{Work, settled}
+use Rattle.work.specs.Rows.{cleared, breaks, firstWork, laterWork, rowWork, lastWork}
 use Rattle.book.specs.Book.{Call}
 use Rattle.book.specs.Demand.{answer}
 use Rattle.demands.proofs.Branches.{each-call}

@@ -8,7 +8,7 @@ use lib.ListN.{length, take, drop}
 use Rattle.state.specs.declared.State.{State}
 use Rattle.verdict.specs.declared.Verdict.the-variants.{Accepted}
 use Rattle.verdict.specs.Verdict.{accepted}
-use Rattle.calls.specs.Result.{Result}
+use Rattle.answer.specs.Result.{Result}
 use Rattle.report.specs.Calls.{generate}
 use Rattle.stream.specs.declared.Run.{Run}
 

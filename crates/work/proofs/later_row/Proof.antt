@@ -1,14 +1,14 @@
--- `calls::later_row` meets its contract: refusal 7, then what the printing answers.
+-- `work::later_row` meets its contract: refusal 7, then what the printing answers.
 -- Assumes nothing.
 use mathlib.Core.Path.{refl}
 use native.Mathlib.Omega.{arith}
 use borrow.Author.Needs.{needs}
 use borrow.Author.Tests.{not-true, not-false}
-use Rattle.calls.proofs.Ready.{detail-few, later-comparable, later-adding, later-called, later-printable}
-use Rattle.calls.proofs.Settled.{sums-refused, answered-so}
-use Rattle.calls.proofs.Works.{later-so}
-use Rattle.calls.proofs.later_row.Statement.{statement}
-use Rattle.calls.proofs.later_row.Tie as tie
+use Rattle.work.proofs.Ready.{detail-few, later-comparable, later-adding, later-called, later-printable}
+use Rattle.work.proofs.Settled.{sums-refused, answered-so}
+use Rattle.work.proofs.Works.{later-so}
+use Rattle.work.proofs.later_row.Statement.{statement}
+use Rattle.work.proofs.later_row.Tie as tie
 
 returns : tie.Need-returns
 returns c =

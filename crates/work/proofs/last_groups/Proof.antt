@@ -1,11 +1,11 @@
--- `calls::last_groups` meets its contract.
+-- `work::last_groups` meets its contract.
 -- Assumes nothing.
 use mathlib.Core.Path.{sym}
 use borrow.Author.Needs.{needs}
-use Rattle.calls.proofs.Ready.{last-sums, last-called, last-long, last-printable}
-use Rattle.calls.proofs.Works.{last-so}
-use Rattle.calls.proofs.last_groups.Statement.{statement}
-use Rattle.calls.proofs.last_groups.Tie as tie
+use Rattle.work.proofs.Ready.{last-sums, last-called, last-long, last-printable}
+use Rattle.work.proofs.Works.{last-so}
+use Rattle.work.proofs.last_groups.Statement.{statement}
+use Rattle.work.proofs.last_groups.Tie as tie
 
 run-requires : tie.Need-run-requires
 run-requires c κs =

@@ -1,11 +1,11 @@
--- `calls::first_row` meets its contract.
+-- `work::first_row` meets its contract.
 -- Assumes nothing.
 use native.Mathlib.Omega.{arith}
 use borrow.Author.Needs.{needs}
-use Rattle.calls.proofs.Ready.{detail-few, first-adding, first-called, first-long, first-printable}
-use Rattle.calls.proofs.Works.{first-so}
-use Rattle.calls.proofs.first_row.Statement.{statement}
-use Rattle.calls.proofs.first_row.Tie as tie
+use Rattle.work.proofs.Ready.{detail-few, first-adding, first-called, first-long, first-printable}
+use Rattle.work.proofs.Works.{first-so}
+use Rattle.work.proofs.first_row.Statement.{statement}
+use Rattle.work.proofs.first_row.Tie as tie
 
 cleared-requires : tie.Need-cleared-requires
 cleared-requires c κs =

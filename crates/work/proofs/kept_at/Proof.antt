@@ -1,12 +1,12 @@
--- `calls::kept_at` meets its contract, by the test on the level.
+-- `work::kept_at` meets its contract, by the test on the level.
 -- Assumes nothing.
 use Prim.Native.Nat.{_<_, _≤_}
 use mathlib.Core.Path.{refl}
 use borrow.Author.Tests.{lt-ltb, le-ltb}
 use native.Mathlib.Omega.{arith}
 use borrow.Author.Needs.{needs}
-use Rattle.calls.proofs.kept_at.Statement.{statement}
-use Rattle.calls.proofs.kept_at.Tie as tie
+use Rattle.work.proofs.kept_at.Statement.{statement}
+use Rattle.work.proofs.kept_at.Tie as tie
 
 returns : tie.Need-returns
 returns c =

@@ -1,10 +1,10 @@
--- `calls::run` meets its contract: refusal 7, then what the printing answers.
+-- `work::run` meets its contract: refusal 7, then what the printing answers.
 -- Assumes nothing.
 use borrow.Author.Needs.{needs}
 use borrow.Author.Tests.{not-true, not-false}
-use Rattle.calls.proofs.Settled.{sums-refused, answered-so}
-use Rattle.calls.proofs.run.Statement.{statement}
-use Rattle.calls.proofs.run.Tie as tie
+use Rattle.work.proofs.Settled.{sums-refused, answered-so}
+use Rattle.work.proofs.run.Statement.{statement}
+use Rattle.work.proofs.run.Tie as tie
 
 returns-2 : tie.Need-returns-2
 returns-2 c = answered-so _ _ _ _ _ _ _ _ (not-false _ (c .before .before .before .before .before .before .before .before .before .before .before .if1 .left)) (c .conclude .ensures) (c .before .before .before .before .before .before .call .ensures)

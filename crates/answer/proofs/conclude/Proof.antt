@@ -1,9 +1,9 @@
--- `calls::conclude` meets its contract, by the outcome.
+-- `answer::conclude` meets its contract, by the outcome.
 -- Assumes nothing.
 use mathlib.Core.Path.{refl}
 use borrow.Author.Needs.{needs}
-use Rattle.calls.proofs.conclude.Statement.{statement}
-use Rattle.calls.proofs.conclude.Tie as tie
+use Rattle.answer.proofs.conclude.Statement.{statement}
+use Rattle.answer.proofs.conclude.Tie as tie
 
 pub conclude-spec : {M : Type 1} → statement M
 conclude-spec =

@@ -1,4 +1,4 @@
--- `calls::flags_at` meets its contract, by the test on the level.
+-- `work::flags_at` meets its contract, by the test on the level.
 -- Assumes nothing.
 use Prim.Native.Nat.{_<_, _≤_}
 use mathlib.Core.Path.{refl, ap, _∙_}
@@ -6,8 +6,8 @@ use borrow.Author.Tests.{lt-ltb, le-ltb}
 use native.Mathlib.Omega.{arith}
 use Rattle.state.specs.Kept.{flagsSet}
 use borrow.Author.Needs.{needs}
-use Rattle.calls.proofs.flags_at.Statement.{statement}
-use Rattle.calls.proofs.flags_at.Tie as tie
+use Rattle.work.proofs.flags_at.Statement.{statement}
+use Rattle.work.proofs.flags_at.Tie as tie
 
 returns : tie.Need-returns
 returns c =

@@ -9,8 +9,9 @@ use Rattle.pages.specs.declared.Outcome.{Outcome}
 use Rattle.pages.specs.Facts.{Answered}
 use Rattle.state.specs.declared.State.{State}
 use Rattle.verdict.specs.declared.Verdict.the-variants.{Sum}
-use Rattle.calls.specs.declared.Answer.{Answer}
-use Rattle.calls.specs.Result.{Work, moved, refusal, answered, settled, Returns}
+use Rattle.answer.specs.declared.Answer.{Answer}
+use Rattle.answer.specs.Result.{refusal, answered, Returns}
+use Rattle.work.specs.Work.{Work, moved, settled}
 
 module _ (h : Head) (t : List ℕ) (s : State) (w : Work) (out : List ℕ) where
   pub sums-refused : (r : Answer) → w .ok ≡ false → r ≡ refusal s Sum → Returns (settled h t s w out) r out

@@ -37,8 +37,8 @@ use Rattle.state.proofs.Kept.{padded-whole}
 use Rattle.accepted.specs.Accepted.{Accepted}
 use Rattle.accepted.proofs.Index.{detail-counted}
 use Rattle.refusals.specs.Facts.{RowIn}
-use Rattle.calls.specs.Result.{placeOf}
-use Rattle.calls.specs.Facts.{Stands}
+use Rattle.answer.specs.Result.{placeOf}
+use Rattle.work.specs.Facts.{Stands}
 
 zeros-at : (n i : ℕ) → getD (replicate n (pos 0)) i (pos 0) ≡ pos 0
 zeros-at zero i = refl
