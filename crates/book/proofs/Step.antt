@@ -24,9 +24,10 @@ use Rattle.pagination.proofs.Climbs.{all-map}
 use Rattle.pagination.proofs.Groups.{sound-none}
 use Rattle.state.specs.declared.State.{State}
 use Rattle.state.specs.State.{idle}
-use Rattle.refusals.specs.declared.Verdict.{Verdict}
-use Rattle.refusals.specs.Verdict.{number}
-use Rattle.calls.specs.Result.{Result, refuse, Work, moved, settled}
+use Rattle.verdict.specs.declared.Verdict.{Verdict}
+use Rattle.verdict.specs.Verdict.{number}
+use Rattle.answer.specs.Result.{Result, refuse}
+use Rattle.work.specs.Work.{Work, moved, settled}
 use Rattle.every_call.proofs.Settles.{printed, each-settled}
 use Rattle.every_call.proofs.Shows.{Shows}
 use Rattle.book.specs.Book.{Call, Book, dueFor, turned, enter}

@@ -16,9 +16,9 @@ use Rattle.pagination.specs.Rising.{Rises}
 use Rattle.pagination.specs.Parts.{InPart}
 use Rattle.pagination.specs.Turns.{Chain, noGroup, Behind, bodies, UpToTwo}
 use Rattle.state.specs.declared.State.{State}
-use Rattle.refusals.specs.Verdict.{number, accepted}
-use Rattle.calls.specs.Result.{Result}
-use Rattle.calls.specs.Calls.{rowWork, lastWork}
+use Rattle.verdict.specs.Verdict.{number, accepted}
+use Rattle.answer.specs.Result.{Result}
+use Rattle.work.specs.Rows.{rowWork, lastWork}
 use Rattle.report.specs.Calls as calls
 use Rattle.book.specs.Book.{Call, initiate, generate, terminate, freshBook, Entry, Event, book, duesIn, duesOf, spotsIn}
 use Rattle.book.specs.Sheet.{sheetOf}

@@ -1,4 +1,2 @@
--- What the calls take from the rules of the description and of the state.
-pub mod Ready
-pub mod Settled
-pub mod Works
+-- From the tests to the answer.
+pub mod Answers

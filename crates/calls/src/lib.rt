@@ -1,29 +1,12 @@
-// What is asked of a report, done on the tables of an accepted description: the work of rows and of the last footings.
+// What is asked of a report, done on the tables of an accepted description: the tests in stages, then the work.
 ghost use mathlib.Core.Path.{_≡_};
-ghost use mathlib.Core.Bool.{cond};
-ghost use Prim.Native.Nat.{_≤_, _<_};
-ghost use lib.ListN.{length};
-ghost use Rattle.lookup.specs.Find.{theDetail};
 ghost use Rattle.rows.specs.Facts.{FieldsIn};
-ghost use Rattle.layout.specs.Facts.{Called};
-ghost use Rattle.call_text.specs.Bytes.{reading};
-ghost use Rattle.call_text.specs.Facts.{Printable};
 ghost use Rattle.accepted.specs.Accepted.{Accepted};
-ghost use Rattle.state.specs.State.{started, running, keptSize};
-ghost use Rattle.state.specs.Kept.{paddedRow};
-ghost use Rattle.refusals.specs.Facts.{RowIn};
-ghost use Rattle.calls.specs.Result.{placeOf, jobOf, refusal as refusalSpec, accepted as acceptedSpec, at, answered, prepared, settled, Returns};
-ghost use Rattle.calls.specs.Calls.{cleared as clearedSpec, breaks, flagsAt, firstWork, laterWork, lastWork, triedIn, callOn};
-ghost use Rattle.calls.specs.Facts.{Stands};
-use layout::Pos;
-use pages::Job;
-use pages::Outcome;
-use place::Spot;
-use plan::Plan;
+ghost use Rattle.answer.specs.Result.{Returns};
+ghost use Rattle.calls.specs.Calls.{triedIn, callOn};
+use answer::Answer;
 use refusals::Tried;
-use refusals::Verdict;
 use state::State;
-use sums::Totals;
 use tables::Head;
 
 // What is asked of a report. The record of GENERATE is lent beside it.
@@ -31,269 +14,6 @@ pub enum Asked {
     Initiate,
     Generate(usize),
     Terminate,
-}
-
-// The verdict, the count of bytes written, and the next state; the state handed in where refused.
-pub struct Answer {
-    pub verdict: Verdict,
-    pub count: usize,
-    pub state: State,
-}
-
-// A refusal returns the state handed in.
-pub fn refusal(s: State, v: Verdict) -> Answer
-    ensures { λ r. ⌜ r ≡ refusalSpec s v ⌝ }
-{
-    Answer {
-        verdict: v,
-        count: 0,
-        state: s,
-    }
-}
-
-// Acceptance without lines.
-fn accepted(s: State) -> Answer
-    ensures { λ r. ⌜ r ≡ acceptedSpec s ⌝ }
-{
-    Answer {
-        verdict: Verdict::Accepted,
-        count: 0,
-        state: s,
-    }
-}
-
-// The state as the next call gets it, by what the printing came to.
-fn conclude(
-    s: State,
-    phase: u8,
-    sums: [i64; state::SUM_COUNT],
-    flags: [bool; state::FLAG_COUNT],
-    kept: [u8; state::KEPT_SIZE],
-    outcome: Outcome,
-) -> Answer
-    ensures { λ r. ⌜ r ≡ answered s (at phase sums flags kept) outcome ⌝ }
-{
-    match outcome {
-        Outcome::Done(count, to) => {
-            let spot = to.spot;
-            Answer {
-                verdict: Verdict::Accepted,
-                count,
-                state: State {
-                    phase,
-                    page: to.page,
-                    line: spot.line,
-                    seen: spot.seen,
-                    saved: spot.saved,
-                    sums,
-                    flags,
-                    kept,
-                },
-            }
-        }
-        Outcome::PageLimit => refusal(s, Verdict::Pages),
-        Outcome::NoRoom => refusal(s, Verdict::Room),
-    }
-}
-
-// Where the state stands.
-fn place_of(s: State) -> Pos
-    ensures { λ r. ⌜ r ≡ placeOf s ⌝ }
-{
-    Pos {
-        page: s.page,
-        spot: Spot {
-            line: s.line,
-            seen: s.seen,
-            saved: s.saved,
-        },
-    }
-}
-
-// The flags after detail `d` was printed: cleared where it has lines.
-fn cleared(
-    t: &[u16],
-    h: Head,
-    d: usize,
-    group: usize,
-    flags: [bool; state::FLAG_COUNT],
-) -> [bool; state::FLAG_COUNT]
-    requires { ⌜ (d < 8) × ((group ≡ theDetail h (now t) d) × (group < 65536)) ⌝ }
-    ensures { λ r. ⌜ r ≡ clearedSpec h (now (t .entry)) d flags ⌝ }
-{
-    if tables::group_num(t, h, group, 3) == 0 {
-        return flags;
-    }
-    let mut next = flags;
-    next[d] = false;
-    next
-}
-
-// What a call has worked out before it prints: the state handed in, the totals, what is to be printed, and the parts of the
-// next state that the printing does not give.
-pub struct Prepared {
-    pub state: State,
-    pub totals: Totals,
-    pub job: Job,
-    pub phase: u8,
-    pub flags: [bool; state::FLAG_COUNT],
-    pub kept: [u8; state::KEPT_SIZE],
-}
-
-// The work of a call, tried and printed: refusals 7, 8 and 9 before the first byte.
-fn run<'a>(
-    t: &[u16],
-    h: Head,
-    lits: &[u8],
-    kept: &'a [u8],
-    row: &'a [u8],
-    w: Prepared,
-    out: &mut [u8],
-) -> Answer
-    requires { ⌜ Called h (now t) (w .job .plan) (w .job .pos) × (Printable h (now t) (reading (now lits) (now kept) (now row) (w .totals .shown) (w .job .flag) (w .job .prefix)) × (length (w .totals .shown) ≡ 32)) ⌝ }
-    ensures { λ r. ⌜ Returns (settled h (now (t .entry)) (w .state) (prepared h (now (t .entry)) (now (lits .entry)) (now (kept .entry)) (now (row .entry)) w) (now (out .entry))) r (now (out .exit)) ⌝ }
-{
-    let s = w.state;
-    let totals = w.totals;
-    let ok = totals.ok;
-    if !ok {
-        return refusal(s, Verdict::Sum);
-    }
-    let job = w.job;
-    let shown = totals.shown;
-    let outcome = pages::call(t, h, lits, kept, row, &shown, job, out);
-    let sums = totals.sums;
-    let flags = w.flags;
-    let next = w.kept;
-    conclude(s, w.phase, sums, flags, next, outcome)
-}
-
-// What is printed of a plan from the place of a state on.
-fn job_of(s: State, plan: Plan, flag: bool) -> Job
-    ensures { λ r. ⌜ r ≡ jobOf s plan flag ⌝ }
-{
-    let prefix = printed::no_prefix();
-    let pos = place_of(s);
-    Job {
-        plan,
-        pos,
-        flag,
-        prefix,
-    }
-}
-
-// The first row of a report.
-pub fn first_row(
-    t: &[u16],
-    h: Head,
-    lits: &[u8],
-    s: State,
-    d: usize,
-    rec: &[u8],
-    out: &mut [u8],
-) -> Answer
-    requires { ⌜ Stands h (now t) (now lits) s × (RowIn h (now t) d (now rec) × (s .phase ≡ started)) ⌝ }
-    ensures { λ r. ⌜ Returns (settled h (now (t .entry)) s (firstWork h (now (t .entry)) (now (lits .entry)) s d (now (rec .entry))) (now (out .entry))) r (now (out .exit)) ⌝ }
-{
-    let group = lookup::find_detail(t, h, d);
-    let old = s.sums;
-    let totals = amounts::totals_first(t, h, rec, d, old);
-    let kept = state::padded(rec);
-    let next = kept;
-    let flags = cleared(t, h, d, group, state::flags_set(lookup::details_of(t, h)));
-    let job = job_of(s, plan::first_plan(h, group), true);
-    let w = Prepared {
-        state: s,
-        totals,
-        job,
-        phase: State::RUNNING,
-        flags,
-        kept: next,
-    };
-    run(t, h, lits, &kept, rec, w, out)
-}
-
-// The flags at a break at level `b`: all set; without a break as they were.
-fn flags_at(
-    t: &[u16],
-    h: Head,
-    b: usize,
-    flags: [bool; state::FLAG_COUNT],
-) -> [bool; state::FLAG_COUNT]
-    ensures { λ r. ⌜ r ≡ flagsAt h (now (t .entry)) b flags ⌝ }
-{
-    if b < tables::wide(h.controls) {
-        state::flags_set(lookup::details_of(t, h))
-    } else {
-        flags
-    }
-}
-
-// The record kept after a row with a break at level `b`; without a break the older one stays.
-fn kept_at(h: Head, b: usize, rec: &[u8], kept: [u8; state::KEPT_SIZE]) -> [u8; state::KEPT_SIZE]
-    requires { ⌜ length (now rec) ≤ keptSize ⌝ }
-    ensures { λ r. ⌜ r ≡ cond (breaks h b) (paddedRow (now (rec .entry))) kept ⌝ }
-{
-    if b < tables::wide(h.controls) {
-        state::padded(rec)
-    } else {
-        kept
-    }
-}
-
-// A later row. It works as `run` does, but in its own place: of all calls this one is made the most, and `run` copies what it is handed.
-pub fn later_row(
-    t: &[u16],
-    h: Head,
-    lits: &[u8],
-    s: State,
-    d: usize,
-    rec: &[u8],
-    out: &mut [u8],
-) -> Answer
-    requires { ⌜ Stands h (now t) (now lits) s × (RowIn h (now t) d (now rec) × (s .phase ≡ running)) ⌝ }
-    ensures { λ r. ⌜ Returns (settled h (now (t .entry)) s (laterWork h (now (t .entry)) (now (lits .entry)) s d (now (rec .entry))) (now (out .entry))) r (now (out .exit)) ⌝ }
-{
-    let group = lookup::find_detail(t, h, d);
-    let b = rows::break_level(t, h, &s.kept, rec);
-    let old = s.sums;
-    let totals = amounts::totals_later(t, h, rec, d, b, old);
-    let ok = totals.ok;
-    if !ok {
-        return refusal(s, Verdict::Sum);
-    }
-    let before = s.flags;
-    let set = flags_at(t, h, b, before);
-    let flag = set[d];
-    let job = job_of(s, plan::later_plan(h, b, group), flag);
-    let outcome = pages::call(t, h, lits, &s.kept, rec, &totals.shown, job, out);
-    let sums = totals.sums;
-    let kept = s.kept;
-    let flags = cleared(t, h, d, group, set);
-    let next = kept_at(h, b, rec, kept);
-    conclude(s, State::RUNNING, sums, flags, next, outcome)
-}
-
-// The last footings of a report.
-pub fn last_groups(t: &[u16], h: Head, lits: &[u8], s: State, out: &mut [u8]) -> Answer
-    requires { ⌜ Stands h (now t) (now lits) s × (s .phase ≡ running) ⌝ }
-    ensures { λ r. ⌜ Returns (settled h (now (t .entry)) s (lastWork h (now (t .entry)) (now (lits .entry)) s) (now (out .entry))) r (now (out .exit)) ⌝ }
-{
-    let old = s.sums;
-    let kept = s.kept;
-    let next = s.kept;
-    let flags = s.flags;
-    let totals = amounts::totals_last(t, h, old);
-    let job = job_of(s, plan::last_plan(h), false);
-    let w = Prepared {
-        state: s,
-        totals,
-        job,
-        phase: State::IDLE,
-        flags,
-        kept: next,
-    };
-    run(t, h, lits, &kept, &kept, w, out)
 }
 
 // Refusals 2 to 6 of what is asked, by whether the state keeps its rules and by its phase.
@@ -321,24 +41,24 @@ pub fn call_on(
     requires { ⌜ Accepted h (now t) (now lits) ⌝ }
     ensures { λ r. ⌜ Returns (callOn h (now (t .entry)) (now (lits .entry)) s asked (now (rec .entry)) (now (out .entry))) r (now (out .exit)) ⌝ }
 {
-    let ok = state::state_ok(t, h, s);
+    let ok = state_rules::state_ok(t, h, s);
     let tests = tried(t, h, ok, s.phase, asked, rec);
     match tests {
-        Tried::Refused(v) => refusal(s, v),
+        Tried::Refused(v) => answer::refusal(s, v),
         Tried::Passed => match asked {
-            Asked::Initiate => accepted(State::at_phase(State::STARTED)),
+            Asked::Initiate => answer::accepted(State::at_phase(State::STARTED)),
             Asked::Generate(d) => {
                 if s.phase == State::STARTED {
-                    first_row(t, h, lits, s, d, rec, out)
+                    work::first_row(t, h, lits, s, d, rec, out)
                 } else {
-                    later_row(t, h, lits, s, d, rec, out)
+                    work::later_row(t, h, lits, s, d, rec, out)
                 }
             }
             Asked::Terminate => {
                 if s.phase == State::STARTED {
-                    accepted(State::fresh())
+                    answer::accepted(State::fresh())
                 } else {
-                    last_groups(t, h, lits, s, out)
+                    work::last_groups(t, h, lits, s, out)
                 }
             }
         },

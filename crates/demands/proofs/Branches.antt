@@ -15,14 +15,16 @@ use Rattle.description.specs.declared.Checked.the-variants.{Accepted, Broken}
 use Rattle.description.specs.Check.{checked}
 use Rattle.state.specs.declared.State.{State}
 use Rattle.state.specs.State.{idle, started, running, freshAt}
-use Rattle.state.specs.Rules.{stateOk}
-use Rattle.refusals.specs.declared.Verdict.{Verdict}
-use Rattle.refusals.specs.declared.Verdict.the-variants as verdict
-use Rattle.refusals.specs.Verdict.{number}
+use Rattle.state_rules.specs.Rules.{stateOk}
+use Rattle.verdict.specs.declared.Verdict.{Verdict}
+use Rattle.verdict.specs.declared.Verdict.the-variants as verdict
+use Rattle.verdict.specs.Verdict.{number}
 use Rattle.calls.specs.declared.Asked.{Asked}
 use Rattle.calls.specs.declared.Asked.the-variants.{Initiate, Generate, Terminate}
-use Rattle.calls.specs.Result.{Result, refuse, settled}
-use Rattle.calls.specs.Calls.{rowWork, lastWork, callOn}
+use Rattle.answer.specs.Result.{Result, refuse}
+use Rattle.work.specs.Work.{settled}
+use Rattle.work.specs.Rows.{rowWork, lastWork}
+use Rattle.calls.specs.Calls.{callOn}
 use Rattle.every_call.proofs.Branches as tables
 use Rattle.report.specs.Calls.{ifAccepted}
 use Rattle.report.specs.Calls as calls

@@ -19,14 +19,14 @@ use Rattle.accepted.specs.Accepted as facts
 use Rattle.accepted.proofs.Accept.{accepted}
 use Rattle.sums.specs.Sums.{sumsOk}
 use Rattle.pagination.specs.All.{All}
-use Rattle.state.proofs.States.{idle-facts, started-facts, running-facts, by-phase}
+use Rattle.state_rules.proofs.States.{idle-facts, started-facts, running-facts, by-phase}
 use Rattle.state.specs.declared.State.{State}
-use Rattle.refusals.specs.Verdict.{number}
+use Rattle.verdict.specs.Verdict.{number}
 use Rattle.state.specs.State.{freshAt}
-use Rattle.calls.specs.Result.{Result}
+use Rattle.answer.specs.Result.{Result}
 use Rattle.calls.specs.declared.Asked.the-variants.{Initiate, Generate, Terminate}
-use Rattle.calls.specs.Facts.{Stands}
-use Rattle.calls.proofs.Ready.{zeros-good}
+use Rattle.work.specs.Facts.{Stands}
+use Rattle.work.proofs.Ready.{zeros-good}
 use Rattle.every_call.proofs.Rules.{fresh-stands, call-stands}
 use Rattle.report.specs.Calls as calls
 use Rattle.state_bytes.specs.Bytes.{bytesOf, stateOf}

@@ -24,12 +24,13 @@ use Rattle.call_text.specs.Bytes.{dueBytes, byteCount}
 use Rattle.call_text.proofs.Bytes.{length-dueBytes, printed-part}
 use Rattle.state.specs.State.{started, running}
 use Rattle.state.specs.declared.State.{State}
-use Rattle.refusals.specs.declared.Verdict.{Verdict}
-use Rattle.refusals.specs.declared.Verdict.the-variants as verdict
-use Rattle.refusals.specs.Verdict.{number}
+use Rattle.verdict.specs.declared.Verdict.{Verdict}
+use Rattle.verdict.specs.declared.Verdict.the-variants as verdict
+use Rattle.verdict.specs.Verdict.{number}
 use Rattle.state.specs.State.{freshAt}
-use Rattle.calls.specs.Result.{Result, refuse, Work, moved, settled}
-use Rattle.calls.specs.Calls.{rowWork, lastWork}
+use Rattle.answer.specs.Result.{Result, refuse}
+use Rattle.work.specs.Work.{Work, moved, settled}
+use Rattle.work.specs.Rows.{rowWork, lastWork}
 use Rattle.every_call.proofs.Settles.{byteTotal, printed as bytesPrinted, each-settled}
 use Rattle.every_call.proofs.Shows.{Shows, first-shows, later-shows, last-shows}
 use Rattle.book.specs.Book.{Call, generate, terminate}

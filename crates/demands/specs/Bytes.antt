@@ -10,7 +10,7 @@ use Rattle.printed.specs.Printed.{noPrefix}
 use Rattle.call_text.specs.Bytes.{dueBytes, byteCount}
 use Rattle.pagination.specs.All.{All}
 use Rattle.state.specs.State.{freshAt}
-use Rattle.calls.specs.Result.{Result}
+use Rattle.answer.specs.Result.{Result}
 use Rattle.state_bytes.specs.Bytes.{bytesOf, stateOf}
 use Rattle.report_c.specs.Leaves.{stored, numbers}
 use Rattle.book.specs.Demand.{Use, answer, reads, Done, run, printed, Demand3}

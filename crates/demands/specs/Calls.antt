@@ -13,10 +13,11 @@ use Rattle.printed.specs.Printed.{noPrefix}
 use Rattle.call_text.specs.Bytes.{dueBytes, byteCount}
 use Rattle.state.specs.State.{idle, started}
 use Rattle.state.specs.declared.State.{State}
-use Rattle.refusals.specs.Verdict.{number}
+use Rattle.verdict.specs.Verdict.{number}
 use Rattle.state.specs.State.{freshAt}
-use Rattle.calls.specs.Result.{Result, moved}
-use Rattle.calls.specs.Calls.{rowWork, lastWork}
+use Rattle.answer.specs.Result.{Result}
+use Rattle.work.specs.Work.{moved}
+use Rattle.work.specs.Rows.{rowWork, lastWork}
 use Rattle.book.specs.Book.{Call, initiate, generate, terminate}
 use Rattle.book.specs.Demand.{Use, answer, reads, taken, run, printed}
 

@@ -16,17 +16,19 @@ use Rattle.rows.specs.Fields.{formed, firstMalformed}
 use Rattle.rows.proofs.Fields.{first-malformed}
 use Rattle.state.specs.declared.State.{State}
 use Rattle.state.specs.State.{idle, started, running}
-use Rattle.state.specs.Rules.{stateOk}
-use Rattle.state.proofs.States.{by-phase}
-use Rattle.refusals.specs.declared.Verdict.{Verdict}
-use Rattle.refusals.specs.declared.Verdict.the-variants as verdict
-use Rattle.refusals.specs.Verdict.{number}
+use Rattle.state_rules.specs.Rules.{stateOk}
+use Rattle.state_rules.proofs.States.{by-phase}
+use Rattle.verdict.specs.declared.Verdict.{Verdict}
+use Rattle.verdict.specs.declared.Verdict.the-variants as verdict
+use Rattle.verdict.specs.Verdict.{number}
 use Rattle.refusals.specs.Stages.{recordTried}
 use Rattle.refusals.specs.Facts.{RowIn}
 use Rattle.calls.specs.declared.Asked.{Asked}
 use Rattle.calls.specs.declared.Asked.the-variants.{Initiate, Generate, Terminate}
-use Rattle.calls.specs.Result.{Result, refuse, settled}
-use Rattle.calls.specs.Calls.{rowWork, lastWork, begun, ended, callOn}
+use Rattle.answer.specs.Result.{Result, refuse}
+use Rattle.work.specs.Work.{settled}
+use Rattle.work.specs.Rows.{rowWork, lastWork}
+use Rattle.calls.specs.Calls.{begun, ended, callOn}
 
 module _ (h : Head) (t lits : List ℕ) (s : State) (out : List ℕ) where
   -- a state that breaks its rules is refused, whatever is asked

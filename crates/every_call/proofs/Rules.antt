@@ -28,15 +28,17 @@ use Rattle.accepted.specs.Accepted.{Accepted}
 use Rattle.state.specs.declared.State.{State}
 use Rattle.state.specs.State.{idle, started, running, flagCount, keptSize, sumCount, freshAt}
 use Rattle.state.specs.Kept.{paddedRow, flagsSet}
-use Rattle.state.specs.Facts.{PageIn, Sized, RunningState}
-use Rattle.state.proofs.States.{idle-ok, fresh-ok, started-facts, started-ok, running-facts, running-ok, by-phase}
+use Rattle.state_rules.specs.Facts.{PageIn, Sized, RunningState}
+use Rattle.state_rules.proofs.States.{idle-ok, fresh-ok, started-facts, started-ok, running-facts, running-ok, by-phase}
 use Rattle.state.proofs.Kept.{length-padded, padded-zero, padded-formed, length-flagsSet, flagsSet-beyond}
 use Rattle.refusals.specs.Facts.{RowIn}
 use Rattle.calls.specs.declared.Asked.{Asked}
-use Rattle.calls.specs.Result.{placeOf, Work, moved, settled}
-use Rattle.calls.specs.Calls.{cleared, breaks, firstWork, laterWork, rowWork, lastWork, callOn}
-use Rattle.calls.specs.Facts.{Stands}
-use Rattle.calls.proofs.Ready.{zeros-good, running-good}
+use Rattle.answer.specs.Result.{placeOf}
+use Rattle.work.specs.Work.{Work, moved, settled}
+use Rattle.work.specs.Rows.{cleared, breaks, firstWork, laterWork, rowWork, lastWork}
+use Rattle.calls.specs.Calls.{callOn}
+use Rattle.work.specs.Facts.{Stands}
+use Rattle.work.proofs.Ready.{zeros-good, running-good}
 use Rattle.every_call.proofs.Settles.{each-settled}
 use Rattle.every_call.proofs.Branches.{each-call}
 

@@ -14,10 +14,11 @@ use Rattle.place.specs.Place.{lastPage}
 use Rattle.call_text.specs.Bytes.{dueBytes, byteCount}
 use Rattle.pages.specs.Outcome.{pastLast, tooShort, outcome, written}
 use Rattle.state.specs.declared.State.{State}
-use Rattle.refusals.specs.declared.Verdict.{Verdict}
-use Rattle.refusals.specs.declared.Verdict.the-variants.{Accepted, Sum, Pages, Room}
-use Rattle.refusals.specs.Verdict.{number}
-use Rattle.calls.specs.Result.{Result, refuse, Work, moved, settled}
+use Rattle.verdict.specs.declared.Verdict.{Verdict}
+use Rattle.verdict.specs.declared.Verdict.the-variants.{Accepted, Sum, Pages, Room}
+use Rattle.verdict.specs.Verdict.{number}
+use Rattle.answer.specs.Result.{Result, refuse}
+use Rattle.work.specs.Work.{Work, moved, settled}
 
 module _ (h : Head) (t : List ℕ) (s : State) (w : Work) (out : List ℕ) where
   abbrev pub byteTotal : ℕ

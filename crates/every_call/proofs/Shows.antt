@@ -9,8 +9,8 @@ use Rattle.compose.specs.Facts.{ItemsIn}
 use Rattle.call_text.proofs.Bytes.{GroupsIn, in-layout}
 use Rattle.accepted.specs.Accepted.{Accepted}
 use Rattle.state.specs.declared.State.{State}
-use Rattle.calls.specs.Result.{Work}
-use Rattle.calls.specs.Calls.{firstWork, laterWork, lastWork}
+use Rattle.work.specs.Work.{Work}
+use Rattle.work.specs.Rows.{firstWork, laterWork, lastWork}
 
 pub record Shows (h : Head) (t : List ℕ) (w : Work) : Type 0 where
   pub items : ItemsIn h t (w .inputs .lits)

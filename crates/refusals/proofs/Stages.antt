@@ -14,10 +14,10 @@ use Rattle.rows.specs.Fields.{formed, firstMalformed}
 use Rattle.rows.proofs.Fields.{first-malformed}
 use Rattle.state.specs.declared.State as state
 use Rattle.state.specs.State.{idle, started, running}
-use Rattle.state.specs.Rules.{stateOk}
-use Rattle.state.proofs.States.{by-phase}
-use Rattle.refusals.specs.declared.Verdict.{Verdict}
-use Rattle.refusals.specs.declared.Verdict.the-variants.{State, Phase, Detail, Length, Field}
+use Rattle.state_rules.specs.Rules.{stateOk}
+use Rattle.state_rules.proofs.States.{by-phase}
+use Rattle.verdict.specs.declared.Verdict.{Verdict}
+use Rattle.verdict.specs.declared.Verdict.the-variants.{State, Phase, Detail, Length, Field}
 use Rattle.refusals.specs.declared.Tried.{Tried}
 use Rattle.refusals.specs.declared.Tried.the-variants.{Passed, Refused}
 use Rattle.refusals.specs.Stages.{then, begunTried, detailTried, recordTried, rowTried}

@@ -9,7 +9,7 @@ use Rattle.lookup.specs.Find.{theDetail}
 use Rattle.rows.specs.Fields.{formed}
 use Rattle.state.specs.declared.State.{State}
 use Rattle.state.specs.State.{idle}
-use Rattle.state.specs.Rules.{stateOk}
+use Rattle.state_rules.specs.Rules.{stateOk}
 
 -- a started or running state
 pub record Begun (h : Head) (t : List ℕ) (s : State) : Type 0 where

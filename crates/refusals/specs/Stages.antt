@@ -9,8 +9,8 @@ use Rattle.lookup.specs.Find.{theDetail}
 use Rattle.rows.specs.Fields.{firstMalformed}
 use Rattle.state.specs.declared.State as state
 use Rattle.state.specs.State.{idle}
-use Rattle.state.specs.Rules.{stateOk}
-use Rattle.refusals.specs.declared.Verdict.the-variants.{State, Phase, Detail, Length, Field}
+use Rattle.state_rules.specs.Rules.{stateOk}
+use Rattle.verdict.specs.declared.Verdict.the-variants.{State, Phase, Detail, Length, Field}
 use Rattle.refusals.specs.declared.Tried.{Tried}
 use Rattle.refusals.specs.declared.Tried.the-variants.{Passed, Refused}
 

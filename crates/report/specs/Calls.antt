@@ -7,10 +7,10 @@ use Rattle.description.specs.declared.Checked.{Checked}
 use Rattle.description.specs.declared.Checked.the-variants.{Accepted, Broken}
 use Rattle.description.specs.Check.{checked}
 use Rattle.state.specs.declared.State.{State}
-use Rattle.refusals.specs.declared.Verdict.the-variants.{Description}
+use Rattle.verdict.specs.declared.Verdict.the-variants.{Description}
 use Rattle.calls.specs.declared.Asked.{Asked}
 use Rattle.calls.specs.declared.Asked.the-variants.{Initiate, Generate, Terminate}
-use Rattle.calls.specs.Result.{Result, refuse}
+use Rattle.answer.specs.Result.{Result, refuse}
 use Rattle.calls.specs.Calls.{callOn}
 
 -- "1 | description breaks a rule D1 to D8", tried first

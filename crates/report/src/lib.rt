@@ -5,14 +5,14 @@ ghost use mathlib.Core.List.{[]};
 ghost use lib.ListN.{length};
 ghost use Rattle.file.specs.Sections.{ruleD1};
 ghost use Rattle.tables.specs.Table.{numbers};
-ghost use Rattle.calls.specs.Result.{Returns};
+ghost use Rattle.answer.specs.Result.{Returns};
 ghost use Rattle.report.specs.Calls.{call as callSpec, initiate as initiateSpec, generate as generateSpec, terminate as terminateSpec};
-use calls::Answer;
+use answer::Answer;
 use calls::Asked;
 use description::Checked;
 use file::Rule;
-use refusals::Verdict;
 use state::State;
+use verdict::Verdict;
 
 // One report: its state, which every call takes by value and gives back in its answer.
 pub struct Report {
@@ -29,7 +29,7 @@ fn call_in(s: State, d: &[u8], t: &mut [u16], asked: Asked, rec: &[u8], out: &mu
     let lits = description::literals_of(d);
     let judged = description::judge(t, h, lits);
     match judged {
-        Checked::Broken(rule) => calls::refusal(s, Verdict::Description(rule)),
+        Checked::Broken(rule) => answer::refusal(s, Verdict::Description(rule)),
         Checked::Accepted => calls::call_on(t, h, lits, s, asked, rec, out),
     }
 }
@@ -40,7 +40,7 @@ pub fn call(s: State, d: &[u8], asked: Asked, rec: &[u8], out: &mut [u8]) -> Ans
     ensures { λ r. ⌜ Returns (callSpec (now (d .entry)) s asked (now (rec .entry)) (now (out .entry))) r (now (out .exit)) ⌝ }
 {
     let Rule::Passed = file::rule_d1(d) else {
-        return calls::refusal(s, Verdict::Description(1));
+        return answer::refusal(s, Verdict::Description(1));
     };
     let n = tables::numbers_of(d);
     if n <= 512 {

@@ -15,12 +15,12 @@ use Rattle.description.specs.Check.{checked}
 use Rattle.state.specs.declared.State.{State}
 use Rattle.refusals.specs.declared.Tried.{Tried}
 use Rattle.refusals.specs.declared.Tried.the-variants.{Passed, Refused}
-use Rattle.calls.specs.declared.Answer.{Answer}
+use Rattle.answer.specs.declared.Answer.{Answer}
 use Rattle.refusals.specs.Stages.{startTried}
+use Rattle.answer.specs.Result.{Result, Returns}
 use Rattle.calls.specs.Calls.{unless, begun, callOn}
 use Rattle.report.specs.Calls.{ifAccepted, call, initiate}
-use Rattle.calls.specs.Result.{Result, Returns}
-use Rattle.refusals.specs.Verdict.{number}
+use Rattle.verdict.specs.Verdict.{number}
 use Rattle.state_bytes.specs.Bytes.{bytesOf}
 use Rattle.report_c.specs.Leaves.{stored, numbers, Leaves, Tells}
 

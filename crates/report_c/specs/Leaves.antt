@@ -3,9 +3,9 @@ use Prim.Native.Nat.{ℕ}
 use mathlib.Core.Path.{_≡_}
 use mathlib.Core.Bool.{cond}
 use mathlib.Core.List.{List, [], _∷_}
-use Rattle.calls.specs.declared.Answer.{Answer}
-use Rattle.calls.specs.Result.{Result}
-use Rattle.refusals.specs.Verdict.{number, extra, accepted}
+use Rattle.answer.specs.declared.Answer.{Answer}
+use Rattle.answer.specs.Result.{Result}
+use Rattle.verdict.specs.Verdict.{number, extra, accepted}
 use Rattle.state_bytes.specs.Bytes.{bytesOf}
 
 -- "Every refusal returns its number, count 0 and the state handed in": the state's bytes change only where the call is accepted

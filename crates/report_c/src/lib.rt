@@ -8,7 +8,7 @@ ghost use Rattle.state.specs.State.{idle, freshAt};
 ghost use Rattle.report.specs.Calls.{initiate as initiateSpec, generate as generateSpec, terminate as terminateSpec};
 ghost use Rattle.state_bytes.specs.Bytes.{stateSize, bytesOf, stateOf};
 ghost use Rattle.report_c.specs.Leaves.{Leaves, Tells};
-use calls::Answer;
+use answer::Answer;
 use report::Report;
 use state::State;
 use state_bytes::STATE_SIZE;

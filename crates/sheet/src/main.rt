@@ -3,10 +3,10 @@ ghost use Prim.Native.Nat.{_+_, _≤_};
 ghost use mathlib.Core.Path.{_≡_};
 ghost use lib.ListN.{length};
 use file::Rule;
-use refusals::Verdict;
 use report::Report;
 use state::State;
 use stream::Run;
+use verdict::Verdict;
 
 // A description that keeps D1 has at most 12,928 bytes, so a longer file breaks it whatever the rest.
 const DESCRIPTION_ROOM: usize = 16_384;

@@ -18,6 +18,7 @@ use Rattle.tables.specs.Table.{fieldOffset, fieldWidth, control}
 use Rattle.rows.specs.Fields.{fieldPart, wellFormed, formed}
 use Rattle.rows.specs.Breaks.{SameControls}
 use Rattle.rows.specs.Facts.{FieldsIn, ControlsIn, Formed}
+use Rattle.state.specs.State.{flagCount, keptSize}
 use Rattle.state.specs.Kept.{paddedRow, flagsSet}
 
 -- a test of every index goes by its test below the bound alone
@@ -29,21 +30,21 @@ all-same p q (suc n) h = rw (all-same p q n (λ i l. h i (omega arith)), h n (om
 -- the kept record
 
 abbrev zeros : List ℕ
-zeros = replicate 256 0
+zeros = replicate keptSize 0
 
-long-zeros : length zeros ≡ 256
-long-zeros = length-replicate {A = ℕ} 256 0
+long-zeros : length zeros ≡ keptSize
+long-zeros = length-replicate {A = ℕ} keptSize 0
 
 padded-append : (row : List ℕ) → paddedRow row ≡ row ++ drop (length row) zeros
 unfolding paddedRow splice
 padded-append row = ap (λ (k : ℕ). row ++ drop k zeros) (zero-add (length row))
 
-pub length-padded : (row : List ℕ) → length row ≤ 256 → length (paddedRow row) ≡ 256
+pub length-padded : (row : List ℕ) → length row ≤ keptSize → length (paddedRow row) ≡ keptSize
 unfolding paddedRow
 length-padded row l = length-splice zeros 0 row (rw long-zeros (omega arith)) ∙ long-zeros
 
 -- bytes from the record's end on are 0
-pub padded-zero : (row : List ℕ) (i : ℕ) → length row ≤ i → i < 256 → getD (paddedRow row) i 0 ≡ 0
+pub padded-zero : (row : List ℕ) (i : ℕ) → length row ≤ i → i < keptSize → getD (paddedRow row) i 0 ≡ 0
 padded-zero row i l m =
     let e : length row + (i - length row) ≡ i = omega arith in
     ap (λ (s : List ℕ). getD s i 0) (padded-append row)
@@ -51,7 +52,7 @@ padded-zero row i l m =
     ∙ getD-append-add row (drop (length row) zeros) (i - length row) 0
     ∙ getD-drop (length row) zeros (i - length row) 0
     ∙ ap (λ (k : ℕ). getD zeros k 0) e
-    ∙ getD-replicate 256 i 0 0 m
+    ∙ getD-replicate keptSize i 0 0 m
 
 -- a field inside the record is kept as it was
 pub padded-part : (t row : List ℕ) (i : ℕ) → fieldOffset t i + fieldWidth t i ≤ length row → fieldPart t (paddedRow row) i ≡ fieldPart t row i
@@ -71,7 +72,7 @@ module _ {h : Head} {t : List ℕ} (row : List ℕ) (f : FieldsIn h t) (l : h .r
   unfolding formed wellFormed
   padded-formed = all-same (wellFormed t (paddedRow row)) (wellFormed t row) (h .fields) (λ i m. rw (in-row i m) refl)
 
-  pub padded-whole : length row ≤ 256 → formed h t row ≡ true → Formed h t (paddedRow row)
+  pub padded-whole : length row ≤ keptSize → formed h t row ≡ true → Formed h t (paddedRow row)
   padded-whole m e =
       record { whole = record { fields = f; long = omega (arith, length-padded row m) }; formed = padded-formed ∙ e }
 
@@ -80,11 +81,11 @@ module _ {h : Head} {t : List ℕ} (row : List ℕ) (f : FieldsIn h t) (l : h .r
 
 -- the indicate flags
 
-pub length-flagsSet : (n : ℕ) → length (flagsSet n) ≡ 8
+pub length-flagsSet : (n : ℕ) → length (flagsSet n) ≡ flagCount
 unfolding flagsSet
 length-flagsSet n = refl
 
-pub flagsSet-at : (n i : ℕ) → i < 8 → getD (flagsSet n) i false ≡ ltb i n
+pub flagsSet-at : (n i : ℕ) → i < flagCount → getD (flagsSet n) i false ≡ ltb i n
 unfolding flagsSet
 flagsSet-at n zero l = refl
 flagsSet-at n (suc zero) l = refl
@@ -97,5 +98,5 @@ flagsSet-at n (suc (suc (suc (suc (suc (suc (suc zero))))))) l = refl
 flagsSet-at n (suc (suc (suc (suc (suc (suc (suc (suc i)))))))) l = absurd (omega arith)
 
 -- flags beyond the details are clear
-pub flagsSet-beyond : (n i : ℕ) → n ≤ i → i < 8 → getD (flagsSet n) i false ≡ false
+pub flagsSet-beyond : (n i : ℕ) → n ≤ i → i < flagCount → getD (flagsSet n) i false ≡ false
 flagsSet-beyond n i l m = flagsSet-at n i m ∙ le-ltb i n l

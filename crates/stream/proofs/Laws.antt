@@ -22,15 +22,17 @@ use Rattle.pages.specs.Outcome.{pastLast, tooShort, outcome, written}
 use Rattle.call_text.specs.Bytes.{dueBytes, byteCount}
 use Rattle.splice.specs.Splice.{splice}
 use Rattle.state.specs.declared.State.{State}
-use Rattle.refusals.specs.declared.Verdict.{Verdict}
-use Rattle.refusals.specs.declared.Verdict.the-variants.{Accepted, Description, State as BrokenState, Phase, Detail, Length, Field, Sum, Pages, Room}
+use Rattle.verdict.specs.declared.Verdict.{Verdict}
+use Rattle.verdict.specs.declared.Verdict.the-variants.{Accepted, Description, State as BrokenState, Phase, Detail, Length, Field, Sum, Pages, Room}
 use Rattle.refusals.specs.declared.Tried.{Tried}
 use Rattle.refusals.specs.declared.Tried.the-variants.{Passed, Refused}
-use Rattle.refusals.specs.Verdict.{number, accepted}
-use Rattle.calls.specs.declared.Answer.{Answer}
-use Rattle.calls.specs.Result.{Result, Returns, Work, refuse, answered, moved, settled}
+use Rattle.verdict.specs.Verdict.{number, accepted}
+use Rattle.answer.specs.declared.Answer.{Answer}
+use Rattle.answer.specs.Result.{Result, Returns, refuse, answered}
+use Rattle.work.specs.Work.{Work, moved, settled}
+use Rattle.work.specs.Rows.{rowWork}
+use Rattle.calls.specs.Calls.{unless, callOn}
 use Rattle.refusals.specs.Stages.{rowTried}
-use Rattle.calls.specs.Calls.{rowWork, unless, callOn}
 use Rattle.report.specs.Calls.{ifAccepted, call, generate}
 use Rattle.stream.specs.Run.{Ran, further, halted, after, next, goes, ran, begun, generateAll}
 

@@ -6,9 +6,9 @@ use mathlib.Core.List.{List, _++_}
 use lib.Dec.{leb}
 use lib.ListN.{length, take, drop}
 use Rattle.state.specs.declared.State.{State}
-use Rattle.refusals.specs.declared.Verdict.the-variants.{Accepted}
-use Rattle.refusals.specs.Verdict.{accepted}
-use Rattle.calls.specs.Result.{Result}
+use Rattle.verdict.specs.declared.Verdict.the-variants.{Accepted}
+use Rattle.verdict.specs.Verdict.{accepted}
+use Rattle.answer.specs.Result.{Result}
 use Rattle.report.specs.Calls.{generate}
 use Rattle.stream.specs.declared.Run.{Run}
 

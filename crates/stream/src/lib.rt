@@ -2,8 +2,8 @@
 ghost use Prim.Native.Nat.{_+_};
 ghost use Rattle.stream.specs.Run.{generateAll, Comes};
 use calls::Asked;
-use refusals::Verdict;
 use state::State;
+use verdict::Verdict;
 
 // How far it came: record bytes done, output bytes written, what stopped it (acceptance: nothing) and the state.
 pub struct Run {

@@ -8,10 +8,10 @@ use borrow.Author.Needs.{needs, length-unmapped}
 use Rattle.refusals.specs.declared.Tried.the-variants.{Passed}
 use Rattle.refusals.specs.Facts.{Begun}
 use Rattle.refusals.proofs.Stages.{running-else}
-use Rattle.calls.specs.Result.{accepted}
+use Rattle.answer.specs.Result.{accepted}
 use Rattle.calls.specs.Calls.{triedIn, tried}
-use Rattle.calls.specs.Facts.{Stands}
-use Rattle.calls.proofs.Works.{asked-row, asked-end, call-refused, call-begun, call-first, call-later, call-ended, call-last}
+use Rattle.work.specs.Facts.{Stands}
+use Rattle.calls.proofs.Answers.{asked-row, asked-end, call-refused, call-begun, call-first, call-later, call-ended, call-last}
 use Rattle.calls.proofs.call_on.Statement.{statement}
 use Rattle.calls.proofs.call_on.Tie as tie
 

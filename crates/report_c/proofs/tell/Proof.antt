@@ -3,7 +3,7 @@
 use mathlib.Core.Path.{refl, sym, _∙_}
 use borrow.Author.Needs.{needs}
 use borrow.Author.Tests.{eq-eqb, ne-eqb}
-use Rattle.refusals.specs.Verdict.{number}
+use Rattle.verdict.specs.Verdict.{number}
 use Rattle.report_c.proofs.Laws.{three, accepted-stored, refused-stored}
 use Rattle.report_c.proofs.tell.Statement.{statement}
 use Rattle.report_c.proofs.tell.Tie as tie

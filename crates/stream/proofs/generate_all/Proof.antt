@@ -6,8 +6,8 @@ use native.Mathlib.Omega.{arith}
 use borrow.Author.Needs.{needs}
 use borrow.Author.Tests.{ne-eqb}
 use lib.ListN.{length, length-drop}
-use Rattle.refusals.specs.declared.Verdict.the-variants.{Accepted}
-use Rattle.refusals.specs.Verdict.{number}
+use Rattle.verdict.specs.declared.Verdict.the-variants.{Accepted}
+use Rattle.verdict.specs.Verdict.{number}
 use Rattle.stream.specs.Run.{Ran, generateAll}
 use Rattle.stream.proofs.Laws.{here, Reaches, reach-start, reach-next, reach-halt, reach-end, none-left, nothing, room-left, put-end, whole-end, next-accepted, next-refused, accepted-is}
 use Rattle.stream.proofs.generate_all.Statement.{statement}

@@ -1,0 +1,78 @@
+-- The work of the first row, of a later one, and of the last footings.
+use Prim.Native.Nat.{ℕ}
+use mathlib.Core.Bool.{Bool, true, false, cond}
+use mathlib.Core.List.{List}
+use lib.Dec.{ltb, eqb}
+use lib.ListN.{getD, set}
+use Rattle.tables.specs.declared.Head.{Head}
+use Rattle.tables.specs.Table.{lineCount}
+use Rattle.lookup.specs.Find.{theDetail, details}
+use Rattle.rows.specs.Breaks.{breakLevel}
+use Rattle.sums.specs.declared.Totals.{Totals}
+use Rattle.amounts.specs.Totals.{totalsFirst, totalsLater, totalsLast}
+use Rattle.plan.specs.Plan.{firstPlan, laterPlan, lastPlan}
+use Rattle.state.specs.declared.State.{State}
+use Rattle.state.specs.State.{idle, started, running}
+use Rattle.state.specs.Kept.{paddedRow, flagsSet}
+use Rattle.work.specs.Work.{jobOf, Work, prepared}
+
+-- ---- flags
+-- "Printing a detail that has lines clears its flag."
+abbrev pub cleared : Head → List ℕ → ℕ → List Bool → List Bool
+cleared h t d flags = cond (eqb (lineCount h t (theDetail h t d)) 0) flags (set flags d false)
+
+-- ---- the work of each call
+-- "First GENERATE: phase running, keep the record, set each detail's indicate flag; RH, PH, all CH senior to junior; then subtotal; then the detail."
+abbrev pub firstWith : Head → List ℕ → List ℕ → State → ℕ → List ℕ → Totals → Work
+firstWith h t lits s d row totals = prepared h t lits (paddedRow row) row (record {
+  state = s;
+  totals = totals;
+  job = jobOf s (firstPlan h (theDetail h t d)) true;
+  phase = running;
+  flags = cleared h t d (flagsSet (details h t));
+  kept = paddedRow row;
+})
+
+unfoldable pub firstWork : Head → List ℕ → List ℕ → State → ℕ → List ℕ → Work
+firstWork h t lits s d row = firstWith h t lits s d row (totalsFirst h t row d (s .sums))
+
+-- "On a break at level b: CFs from junior up to b, then keep the record and set indicate flags, then CHs from b down; then subtotal and detail."
+-- Without a break b is the number of controls
+abbrev pub breaks : Head → ℕ → Bool
+breaks h b = ltb b (h .controls)
+
+abbrev pub flagsAt : Head → List ℕ → ℕ → List Bool → List Bool
+flagsAt h t b flags = cond (breaks h b) (flagsSet (details h t)) flags
+
+abbrev pub laterWith : Head → List ℕ → List ℕ → State → ℕ → List ℕ → ℕ → Totals → Work
+laterWith h t lits s d row b totals = prepared h t lits (s .kept) row (record {
+  state = s;
+  totals = totals;
+  job = jobOf s (laterPlan h b (theDetail h t d)) (getD (flagsAt h t b (s .flags)) d false);
+  phase = running;
+  flags = cleared h t d (flagsAt h t b (s .flags));
+  kept = cond (breaks h b) (paddedRow row) (s .kept);
+})
+
+abbrev pub laterAt : Head → List ℕ → List ℕ → State → ℕ → List ℕ → ℕ → Work
+laterAt h t lits s d row b = laterWith h t lits s d row b (totalsLater h t row d b (s .sums))
+
+unfoldable pub laterWork : Head → List ℕ → List ℕ → State → ℕ → List ℕ → Work
+laterWork h t lits s d row = laterAt h t lits s d row (breakLevel h t (s .kept) row)
+
+abbrev pub rowWork : Head → List ℕ → List ℕ → State → ℕ → List ℕ → Work
+rowWork h t lits s d row = cond (eqb (s .phase) started) (firstWork h t lits s d row) (laterWork h t lits s d row)
+
+-- "TERMINATE .. when running: break at level 0, all CFs, then PF, RF; idle after, the rest as these steps leave it."
+abbrev pub lastWith : Head → List ℕ → List ℕ → State → Totals → Work
+lastWith h t lits s totals = prepared h t lits (s .kept) (s .kept) (record {
+  state = s;
+  totals = totals;
+  job = jobOf s (lastPlan h) false;
+  phase = idle;
+  flags = s .flags;
+  kept = s .kept;
+})
+
+unfoldable pub lastWork : Head → List ℕ → List ℕ → State → Work
+lastWork h t lits s = lastWith h t lits s (totalsLast h t (s .sums))

@@ -1,0 +1,56 @@
+-- What a call has worked out before it prints, and what it comes to.
+use Prim.Native.Nat.{ℕ}
+use mathlib.Core.Bool.{Bool, cond}
+use mathlib.Core.List.{List}
+use lib.IntN.{ℤ}
+use lib.ListN.{length}
+use Rattle.tables.specs.declared.Head.{Head}
+use Rattle.printed.specs.Printed.{noPrefix}
+use Rattle.plan.specs.declared.Plan.{Plan}
+use Rattle.layout.specs.declared.Pos.{Pos}
+use Rattle.layout.specs.Layout.{Laid, layout}
+use Rattle.call_text.specs.Bytes.{Reading, reading}
+use Rattle.pages.specs.declared.Job.{Job}
+use Rattle.pages.specs.Outcome.{outcome, written}
+use Rattle.verdict.specs.declared.Verdict.the-variants.{Sum}
+use Rattle.state.specs.declared.State.{State}
+use Rattle.answer.specs.Result.{Result, refuse, placeOf, at, answered}
+use Rattle.work.specs.declared.Prepared.{Prepared}
+
+-- what is printed of a plan from the state's place on: nothing stands in front of the records
+abbrev pub jobOf : State → Plan → Bool → Job
+jobOf s p flag = record { plan = p; pos = placeOf s; flag = flag; prefix = noPrefix }
+
+-- what a call has worked out before it prints: whether every addition stayed in range, the layout, what the items read, and the parts of the next
+-- state that the layout does not give
+pub record Work : Type 0 where
+  pub ok : Bool
+  pub laid : Laid
+  pub inputs : Reading
+  pub phase : ℕ
+  pub sums : List ℤ
+  pub flags : List Bool
+  pub kept : List ℕ
+
+-- the same from the parts that the code holds
+abbrev pub prepared : Head → List ℕ → List ℕ → List ℕ → List ℕ → Prepared → Work
+prepared h t lits kept row w = record {
+  ok = w .totals .ok;
+  laid = layout h t (w .job .plan) (w .job .pos);
+  inputs = reading lits kept row (w .totals .shown) (w .job .flag) (w .job .prefix);
+  phase = w .phase;
+  sums = w .totals .sums;
+  flags = w .flags;
+  kept = w .kept;
+}
+
+-- the next state, at a place
+abbrev pub moved : Work → Pos → State
+moved w p = at (w .phase) (w .sums) (w .flags) (w .kept) p
+
+-- "7 | an addition would leave the sum range", over all additions of the call; then 8 and 9, of its whole layout
+unfoldable pub settled : Head → List ℕ → State → Work → List ℕ → Result
+settled h t s w out =
+    cond (w .ok)
+    (record { answer = answered s (moved w) (outcome h t (w .inputs .prefix) (length out) (w .laid)); out = written h t (w .inputs) out (w .laid) })
+    (refuse s out Sum)

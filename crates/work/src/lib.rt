@@ -1,0 +1,209 @@
+// The work of a row and of the last footings, on the tables of an accepted description.
+ghost use mathlib.Core.Path.{_≡_};
+ghost use mathlib.Core.Bool.{cond};
+ghost use Prim.Native.Nat.{_≤_, _<_};
+ghost use lib.ListN.{length};
+ghost use Rattle.lookup.specs.Find.{theDetail};
+ghost use Rattle.layout.specs.Facts.{Called};
+ghost use Rattle.call_text.specs.Bytes.{reading};
+ghost use Rattle.call_text.specs.Facts.{Printable};
+ghost use Rattle.state.specs.State.{started, running, keptSize};
+ghost use Rattle.state.specs.Kept.{paddedRow};
+ghost use Rattle.refusals.specs.Facts.{RowIn};
+ghost use Rattle.answer.specs.Result.{Returns};
+ghost use Rattle.work.specs.Work.{jobOf, prepared, settled};
+ghost use Rattle.work.specs.Rows.{cleared as clearedSpec, breaks, flagsAt, firstWork, laterWork, lastWork};
+ghost use Rattle.work.specs.Facts.{Stands};
+use answer::Answer;
+use pages::Job;
+use plan::Plan;
+use state::State;
+use sums::Totals;
+use tables::Head;
+use verdict::Verdict;
+
+// The flags after detail `d` was printed: cleared where it has lines.
+fn cleared(
+    t: &[u16],
+    h: Head,
+    d: usize,
+    group: usize,
+    flags: [bool; state::FLAG_COUNT],
+) -> [bool; state::FLAG_COUNT]
+    requires { ⌜ (d < 8) × ((group ≡ theDetail h (now t) d) × (group < 65536)) ⌝ }
+    ensures { λ r. ⌜ r ≡ clearedSpec h (now (t .entry)) d flags ⌝ }
+{
+    if tables::group_num(t, h, group, 3) == 0 {
+        return flags;
+    }
+    let mut next = flags;
+    next[d] = false;
+    next
+}
+
+// What a call has worked out before it prints: the state handed in, the totals, what is to be printed, and the parts of the
+// next state that the printing does not give.
+pub struct Prepared {
+    pub state: State,
+    pub totals: Totals,
+    pub job: Job,
+    pub phase: u8,
+    pub flags: [bool; state::FLAG_COUNT],
+    pub kept: [u8; state::KEPT_SIZE],
+}
+
+// The work of a call, tried and printed: refusals 7, 8 and 9 before the first byte.
+fn run<'a>(
+    t: &[u16],
+    h: Head,
+    lits: &[u8],
+    kept: &'a [u8],
+    row: &'a [u8],
+    w: Prepared,
+    out: &mut [u8],
+) -> Answer
+    requires { ⌜ Called h (now t) (w .job .plan) (w .job .pos) × (Printable h (now t) (reading (now lits) (now kept) (now row) (w .totals .shown) (w .job .flag) (w .job .prefix)) × (length (w .totals .shown) ≡ 32)) ⌝ }
+    ensures { λ r. ⌜ Returns (settled h (now (t .entry)) (w .state) (prepared h (now (t .entry)) (now (lits .entry)) (now (kept .entry)) (now (row .entry)) w) (now (out .entry))) r (now (out .exit)) ⌝ }
+{
+    let s = w.state;
+    let totals = w.totals;
+    let ok = totals.ok;
+    if !ok {
+        return answer::refusal(s, Verdict::Sum);
+    }
+    let job = w.job;
+    let shown = totals.shown;
+    let outcome = pages::call(t, h, lits, kept, row, &shown, job, out);
+    let sums = totals.sums;
+    let flags = w.flags;
+    let next = w.kept;
+    answer::conclude(s, w.phase, sums, flags, next, outcome)
+}
+
+// What is printed of a plan from the place of a state on.
+fn job_of(s: State, plan: Plan, flag: bool) -> Job
+    ensures { λ r. ⌜ r ≡ jobOf s plan flag ⌝ }
+{
+    let prefix = printed::no_prefix();
+    let pos = answer::place_of(s);
+    Job {
+        plan,
+        pos,
+        flag,
+        prefix,
+    }
+}
+
+// The first row of a report.
+pub fn first_row(
+    t: &[u16],
+    h: Head,
+    lits: &[u8],
+    s: State,
+    d: usize,
+    rec: &[u8],
+    out: &mut [u8],
+) -> Answer
+    requires { ⌜ Stands h (now t) (now lits) s × (RowIn h (now t) d (now rec) × (s .phase ≡ started)) ⌝ }
+    ensures { λ r. ⌜ Returns (settled h (now (t .entry)) s (firstWork h (now (t .entry)) (now (lits .entry)) s d (now (rec .entry))) (now (out .entry))) r (now (out .exit)) ⌝ }
+{
+    let group = lookup::find_detail(t, h, d);
+    let old = s.sums;
+    let totals = amounts::totals_first(t, h, rec, d, old);
+    let kept = state::padded(rec);
+    let next = kept;
+    let flags = cleared(t, h, d, group, state::flags_set(lookup::details_of(t, h)));
+    let job = job_of(s, plan::first_plan(h, group), true);
+    let w = Prepared {
+        state: s,
+        totals,
+        job,
+        phase: State::RUNNING,
+        flags,
+        kept: next,
+    };
+    run(t, h, lits, &kept, rec, w, out)
+}
+
+// The flags at a break at level `b`: all set; without a break as they were.
+fn flags_at(
+    t: &[u16],
+    h: Head,
+    b: usize,
+    flags: [bool; state::FLAG_COUNT],
+) -> [bool; state::FLAG_COUNT]
+    ensures { λ r. ⌜ r ≡ flagsAt h (now (t .entry)) b flags ⌝ }
+{
+    if b < tables::wide(h.controls) {
+        state::flags_set(lookup::details_of(t, h))
+    } else {
+        flags
+    }
+}
+
+// The record kept after a row with a break at level `b`; without a break the older one stays.
+fn kept_at(h: Head, b: usize, rec: &[u8], kept: [u8; state::KEPT_SIZE]) -> [u8; state::KEPT_SIZE]
+    requires { ⌜ length (now rec) ≤ keptSize ⌝ }
+    ensures { λ r. ⌜ r ≡ cond (breaks h b) (paddedRow (now (rec .entry))) kept ⌝ }
+{
+    if b < tables::wide(h.controls) {
+        state::padded(rec)
+    } else {
+        kept
+    }
+}
+
+// A later row. It works as `run` does, but in its own place: of all calls this one is made the most, and `run` copies what it is handed.
+pub fn later_row(
+    t: &[u16],
+    h: Head,
+    lits: &[u8],
+    s: State,
+    d: usize,
+    rec: &[u8],
+    out: &mut [u8],
+) -> Answer
+    requires { ⌜ Stands h (now t) (now lits) s × (RowIn h (now t) d (now rec) × (s .phase ≡ running)) ⌝ }
+    ensures { λ r. ⌜ Returns (settled h (now (t .entry)) s (laterWork h (now (t .entry)) (now (lits .entry)) s d (now (rec .entry))) (now (out .entry))) r (now (out .exit)) ⌝ }
+{
+    let group = lookup::find_detail(t, h, d);
+    let b = rows::break_level(t, h, &s.kept, rec);
+    let old = s.sums;
+    let totals = amounts::totals_later(t, h, rec, d, b, old);
+    let ok = totals.ok;
+    if !ok {
+        return answer::refusal(s, Verdict::Sum);
+    }
+    let before = s.flags;
+    let set = flags_at(t, h, b, before);
+    let flag = set[d];
+    let job = job_of(s, plan::later_plan(h, b, group), flag);
+    let outcome = pages::call(t, h, lits, &s.kept, rec, &totals.shown, job, out);
+    let sums = totals.sums;
+    let kept = s.kept;
+    let flags = cleared(t, h, d, group, set);
+    let next = kept_at(h, b, rec, kept);
+    answer::conclude(s, State::RUNNING, sums, flags, next, outcome)
+}
+
+// The last footings of a report.
+pub fn last_groups(t: &[u16], h: Head, lits: &[u8], s: State, out: &mut [u8]) -> Answer
+    requires { ⌜ Stands h (now t) (now lits) s × (s .phase ≡ running) ⌝ }
+    ensures { λ r. ⌜ Returns (settled h (now (t .entry)) s (lastWork h (now (t .entry)) (now (lits .entry)) s) (now (out .entry))) r (now (out .exit)) ⌝ }
+{
+    let old = s.sums;
+    let kept = s.kept;
+    let next = s.kept;
+    let flags = s.flags;
+    let totals = amounts::totals_last(t, h, old);
+    let job = job_of(s, plan::last_plan(h), false);
+    let w = Prepared {
+        state: s,
+        totals,
+        job,
+        phase: State::IDLE,
+        flags,
+        kept: next,
+    };
+    run(t, h, lits, &kept, &kept, w, out)
+}
