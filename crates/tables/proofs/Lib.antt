@@ -1,4 +1,3 @@
 -- The laws that belong to no one function.
 pub mod Fill
-pub mod Heads
 pub mod Says

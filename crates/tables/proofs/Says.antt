@@ -1,25 +1,54 @@
--- The tables say what the bytes say, once over all sections: where D1 is passed, every number of every entry is the same in both.
+-- The tables say what the bytes say, once over all sections: every number of every entry is the same in both. In version 1, where D1 is passed,
+-- they are the file up to the literals, and no more than a table's most.
 -- Assumes nothing.
 use Prim.Native.Nat.{ℕ, zero, suc, _+_, _*_, _≤_, _<_}
-use mathlib.Core.Path.{_≡_, refl, _∙_, ap}
+use mathlib.Core.Path.{_≡_, refl, _∙_, ap, fun-ext}
 use mathlib.Core.Bool.{true, _&&_}
 use mathlib.Core.List.{List}
-use native.Mathlib.Nat.{mul-comm, mul-assoc, mul-left-comm, mul-add, mul-le-mul-left}
+use native.Mathlib.Nat.{add-assoc, mul-comm, mul-assoc, mul-left-comm, mul-add, mul-le-mul-left}
 use native.Mathlib.Numerals.{add-one}
 use native.Mathlib.Omega.{arith}
 use borrow.Author.Tests.{leb-true, eqb-true, lt-ltb}
 use lib.Dec.{leb, eqb}
-use lib.ListN.{length, getD}
-use Rattle.counts.specs.Below.{allBelow, sumBelow}
-use Rattle.counts.proofs.Laws.{and-l, and-r, all-at, list-at, sum-part}
+use lib.ListN.{length}
+use Rattle.counts.specs.Below.{allBelow, sumBelow, listBelow}
+use Rattle.counts.proofs.Laws.{and-l, and-r, all-at, sum-same, length-listBelow, list-at, length-joinBelow, join-at, join-list}
 use Rattle.file.specs.Version.{known, trailerSize, entrySize, entryLimit}
 use Rattle.file.specs.Number.{num}
 use Rattle.file.specs.Trailer.{version, HasTrailer, start, count}
 use Rattle.file.specs.Sections.{sectionEnd, nextStart, sectionOk, ruleD1}
-use Rattle.tables.specs.Section.{words, tableStart, startOf, entry}
+use Rattle.tables.specs.Section.{tableSections, words, tableStart, startOf, numbersOf, entry}
 use Rattle.tables.specs.Head.{headOf}
-use Rattle.tables.specs.Table.{numbers, table, NumbersIn}
-use Rattle.tables.specs.Entry.{inBytes}
+use Rattle.tables.specs.Table.{numbers, table, numbersMax}
+use Rattle.tables.specs.Entry.{inBytes, entryNumbers, sectionNumbers}
+
+starts : (d : List ℕ) (k : ℕ) → k < tableSections → startOf (headOf d) k ≡ tableStart d k
+unfolding sumBelow
+starts d zero l = refl
+starts d (suc zero) l = omega arith
+starts d (suc (suc zero)) l = omega arith
+starts d (suc (suc (suc zero))) l = omega arith
+starts d (suc (suc (suc (suc zero)))) l = omega arith
+starts d (suc (suc (suc (suc (suc zero))))) l = omega arith
+starts d (suc (suc (suc (suc (suc (suc zero)))))) l = omega arith
+starts d (suc (suc (suc (suc (suc (suc (suc k))))))) l = absurd (omega arith)
+
+pub numbers-head : (d : List ℕ) → numbersOf (headOf d) ≡ numbers d
+unfolding sumBelow
+numbers-head d = omega arith
+
+section-length : (d : List ℕ) (k : ℕ) → length (sectionNumbers d k) ≡ words k * count d k
+section-length d k =
+    length-joinBelow (entryNumbers d k) (λ i. words k) (λ i. length-listBelow (words k) (inBytes d k i)) (count d k) ∙ sum-same (words k) (count d k)
+
+-- number j of entry i of section k: in the tables what it is in the bytes
+pub says : (d : List ℕ) (k : ℕ) → k < tableSections → (i : ℕ) → i < count d k → (j : ℕ) → j < words k → entry (headOf d) (table d) k i j ≡ inBytes d k i j
+unfolding table
+says d k l i m j n =
+    let x : words k * (i + 1) ≤ words k * count d k = mul-le-mul-left (words k) (omega arith) in
+    let y = mul-add (words k) i 1 in
+    rw (starts d k l, add-assoc (tableStart d k) (words k * i) j, join-at (sectionNumbers d) (λ k. words k * count d k) (section-length d) 0 k tableSections (words k * i + j) l (omega arith), ← sum-same (words k) i)
+    (join-at (entryNumbers d k) (λ i. words k) (λ i. length-listBelow (words k) (inBytes d k i)) 0 i (count d k) j m n ∙ list-at 0 (words k) (inBytes d k i) j n)
 
 module _ (d : List ℕ) (passes : ruleD1 d ≡ true) where
   section : (k : ℕ) → k < 8 → sectionOk d k ≡ true
@@ -49,12 +78,8 @@ module _ (d : List ℕ) (passes : ruleD1 d ≡ true) where
   unfolding allBelow
   two-bytes k l = eqb-true _ _ (all-at (λ k. eqb (entrySize (version d) k) (2 * words k)) k 7 l refl)
 
-  pub start-next : (k : ℕ) → tableStart d (k + 1) ≡ tableStart d k + words k * count d k
-  unfolding sumBelow
-  start-next k = rw add-one refl
-
   -- so that a section's start in the file is twice its start in the table
-  pub place : (k : ℕ) → k ≤ 7 → start d k ≡ 2 * tableStart d k
+  place : (k : ℕ) → k ≤ tableSections → start d k ≡ 2 * tableStart d k
   unfolding sumBelow
   place zero l = first
   place (suc k) l =
@@ -62,10 +87,9 @@ module _ (d : List ℕ) (passes : ruleD1 d ≡ true) where
       let a = place k (omega arith) in
       let e : start d k + count d k * entrySize (version d) k ≡ start d (k + 1) = rw (lt-ltb k 7 b) at (ends k (omega arith)) in
       let m : count d k * entrySize (version d) k ≡ 2 * (words k * count d k) = rw (two-bytes k b, mul-comm (words k) (count d k)) (mul-left-comm (count d k) 2 (words k)) in
-      let s = start-next k in
       rw (← add-one k) (omega arith)
 
-  few : numbers d ≤ 4392
+  pub few : numbers d ≤ numbersMax
   unfolding sumBelow
   few =
       let c0 = counted 0 (omega arith) in let c1 = counted 1 (omega arith) in let c2 = counted 2 (omega arith) in
@@ -73,34 +97,15 @@ module _ (d : List ℕ) (passes : ruleD1 d ≡ true) where
       let c6 = counted 6 (omega arith) in
       omega arith
 
-  pub numbers-in : NumbersIn d
-  numbers-in = let p = place 7 (omega arith) in let e = ends 7 (omega arith) in record { inside = omega arith; few = few }
+  pub inside : 2 * numbers d ≤ length d
+  inside = omega (arith, place 7 (omega arith), ends 7 (omega arith))
 
-  -- a section with its entries lies inside the table
-  pub start-small : (k : ℕ) → k < 7 → tableStart d k + words k * count d k ≤ 4392
-  start-small k l = let p = sum-part (λ i. words i * count d i) k 7 l in omega (arith, few)
-
-  starts : (k : ℕ) → k < 7 → startOf (headOf d) k ≡ tableStart d k
-  unfolding sumBelow
-  starts zero l = refl
-  starts (suc zero) l = refl
-  starts (suc (suc zero)) l = refl
-  starts (suc (suc (suc zero))) l = refl
-  starts (suc (suc (suc (suc zero)))) l = refl
-  starts (suc (suc (suc (suc (suc zero))))) l = refl
-  starts (suc (suc (suc (suc (suc (suc zero)))))) l = refl
-  starts (suc (suc (suc (suc (suc (suc (suc k))))))) l = absurd (omega arith)
-
-  number : (a b : ℕ) → a < numbers d → 2 * a ≡ b → getD (table d) a 0 ≡ num d b
+  -- and the table is the numbers of the file up to the literals
+  pub block : table d ≡ listBelow (numbers d) (λ a. num d (2 * a))
   unfolding table
-  number a b l e = list-at 0 (numbers d) (λ i. num d (2 * i)) a l ∙ ap (num d) e
-
-  -- number j of entry i of section k: in the tables what it is in the bytes
-  pub says : (k : ℕ) → k < 7 → (i : ℕ) → i < count d k → (j : ℕ) → j < words k → entry (headOf d) (table d) k i j ≡ inBytes d k i j
-  says k l i m j n =
-      let p = place k (omega arith) in
-      let w = sum-part (λ i. words i * count d i) k 7 l in
-      let x : words k * (i + 1) ≤ words k * count d k = mul-le-mul-left (words k) (omega arith) in
-      let y = mul-add (words k) i 1 in
-      let z : entrySize (version d) k * i ≡ 2 * (words k * i) = rw (two-bytes k l) (mul-assoc 2 (words k) i) in
-      rw (starts k l) (number (tableStart d k + words k * i + j) _ (omega arith) (omega arith))
+  block =
+      join-list (sectionNumbers d) (λ k. words k * count d k) (λ a. num d (2 * a)) tableSections
+      (λ k l. rw (← sum-same (words k) (count d k))
+      (join-list (entryNumbers d k) (λ i. words k) (λ a. num d (2 * (tableStart d k + a))) (count d k)
+      (λ i m. ap (listBelow (words k)) (fun-ext
+      (λ j. let e : start d k + entrySize (version d) k * i + 2 * j ≡ 2 * (tableStart d k + (sumBelow i (λ i. words k) + j)) = rw (two-bytes k l, mul-assoc 2 (words k) i) (omega (arith, place k (omega arith), sum-same (words k) i)) in ap (num d) e)))))

@@ -1,19 +1,15 @@
--- The head of the tables: where each section starts in the table, the entry counts, and the page.
-use Prim.Native.Nat.{ℕ}
+-- The head of the tables: where each section starts in the table, the entry counts, and the page. The version is not in it.
+use Prim.Native.Nat.{ℕ, _+_, _*_}
 use mathlib.Core.List.{List}
 use Rattle.file.specs.Trailer.{count, setting}
 use Rattle.tables.specs.declared.Head.{Head}
-use Rattle.tables.specs.Section.{controlSection, groupSection, lineSection, itemSection, counterSection, addendSection, fieldSection, tableStart}
+use Rattle.tables.specs.declared.Counts.{Counts}
+use Rattle.tables.specs.declared.Settings.{Settings}
+use Rattle.tables.specs.Section.{fieldSection, controlSection, groupSection, lineSection, itemSection, counterSection, addendSection, literalSection, words}
 
--- counts and settings as the trailer has them ("then P, H, FD, LD, FT, line width W, record length R, version"); section 7 is the literal bytes
-abbrev pub headOf : List ℕ → Head
-headOf d = record {
-  cstart = tableStart d controlSection;
-  gstart = tableStart d groupSection;
-  lstart = tableStart d lineSection;
-  istart = tableStart d itemSection;
-  kstart = tableStart d counterSection;
-  astart = tableStart d addendSection;
+-- the "entry count of each section", as the trailer has it
+abbrev pub countsOf : List ℕ → Counts
+countsOf d = record {
   fields = count d fieldSection;
   controls = count d controlSection;
   groups = count d groupSection;
@@ -21,7 +17,12 @@ headOf d = record {
   items = count d itemSection;
   counters = count d counterSection;
   addends = count d addendSection;
-  literals = count d 7;
+  literals = count d literalSection;
+}
+
+-- "then P, H, FD, LD, FT, line width W, record length R", as the trailer has them
+abbrev pub settingsOf : List ℕ → Settings
+settingsOf d = record {
   page = setting d 0;
   top = setting d 1;
   fd = setting d 2;
@@ -29,5 +30,39 @@ headOf d = record {
   ft = setting d 4;
   width = setting d 5;
   reclen = setting d 6;
-  version = setting d 7;
 }
+
+-- of these a head: in the table a section starts behind the entries of the one before it
+abbrev pub headWith : Counts → Settings → Head
+headWith n p =
+    let c = words fieldSection * n .fields in
+    let g = c + words controlSection * n .controls in
+    let l = g + words groupSection * n .groups in
+    let i = l + words lineSection * n .lines in
+    let k = i + words itemSection * n .items in
+    record {
+      cstart = c;
+      gstart = g;
+      lstart = l;
+      istart = i;
+      kstart = k;
+      astart = k + words counterSection * n .counters;
+      fields = n .fields;
+      controls = n .controls;
+      groups = n .groups;
+      lines = n .lines;
+      items = n .items;
+      counters = n .counters;
+      addends = n .addends;
+      literals = n .literals;
+      page = p .page;
+      top = p .top;
+      fd = p .fd;
+      ld = p .ld;
+      ft = p .ft;
+      width = p .width;
+      reclen = p .reclen;
+    }
+
+abbrev pub headOf : List ℕ → Head
+headOf d = headWith (countsOf d) (settingsOf d)

@@ -2,5 +2,5 @@
 pub mod Kinds
 pub mod Section
 pub mod Head
-pub mod Table
 pub mod Entry
+pub mod Table

@@ -6,7 +6,7 @@ use Rattle.counts.specs.Below.{sumBelow}
 use Rattle.file.specs.Trailer.{count}
 use Rattle.tables.specs.declared.Head.{Head}
 
--- "fields, controls, groups, lines, items, counters, addends": sections 0 to 6, in the file's order (section 7 is the literal bytes)
+-- "fields, controls, groups, lines, items, counters, addends, literal bytes": the sections in the file's order
 abbrev pub fieldSection : ℕ
 fieldSection = 0
 
@@ -28,6 +28,13 @@ counterSection = 5
 abbrev pub addendSection : ℕ
 addendSection = 6
 
+abbrev pub literalSection : ℕ
+literalSection = 7
+
+-- the table has all of them but the literal bytes
+abbrev pub tableSections : ℕ
+tableSections = 7
+
 -- numbers of an entry of section k in the table
 abbrev pub words : ℕ → ℕ
 words k = getD (3 ∷ 1 ∷ 6 ∷ 4 ∷ 6 ∷ 4 ∷ 3 ∷ []) k 0
@@ -42,6 +49,10 @@ startOf h k = getD (0 ∷ h .cstart ∷ h .gstart ∷ h .lstart ∷ h .istart �
 
 abbrev pub countOf : Head → ℕ → ℕ
 countOf h k = getD (h .fields ∷ h .controls ∷ h .groups ∷ h .lines ∷ h .items ∷ h .counters ∷ h .addends ∷ []) k 0
+
+-- how many numbers the table under a head has: the addends end it
+abbrev pub numbersOf : Head → ℕ
+numbersOf h = h .astart + words addendSection * h .addends
 
 -- number j of entry i of section k, which starts at a place; a number past the end of the table counts as 0
 abbrev pub entryAt : List ℕ → ℕ → ℕ → ℕ → ℕ → ℕ
