@@ -13,9 +13,9 @@ use Rattle.file.specs.Trailer.{version}
 use Rattle.file.specs.Sections.{ruleD1}
 use Rattle.tables.specs.declared.Head.{Head}
 use Rattle.tables.specs.Section.{controlSection, groupSection, counterSection}
-use Rattle.tables.specs.Head.{headOf}
-use Rattle.tables.specs.Table.{table, literals}
-use Rattle.tables.proofs.Says.{counted}
+use Rattle.unpacked.specs.Head.{headOf}
+use Rattle.unpacked.specs.Table.{table, literals}
+use Rattle.file.proofs.D1.{counted}
 use Rattle.fields.specs.Page.{ruleD2}
 use Rattle.fields.specs.Fields.{ruleD3}
 use Rattle.fields.specs.Controls.{ruleD4}

@@ -13,8 +13,9 @@ use lib.IntN.{pos}
 use lib.ListN.{length, getD, set}
 use Rattle.counts.proofs.Laws.{by-test, by-cond}
 use Rattle.tables.specs.declared.Head.{Head}
-use Rattle.tables.specs.Head.{headOf}
-use Rattle.tables.specs.Table.{lineCount, table, literals}
+use Rattle.unpacked.specs.Head.{headOf}
+use Rattle.tables.specs.Table.{lineCount}
+use Rattle.unpacked.specs.Table.{table, literals}
 use Rattle.lookup.specs.Find.{theDetail, details}
 use Rattle.description.specs.declared.Checked.the-variants.{Accepted}
 use Rattle.description.specs.Check.{checked}

@@ -12,8 +12,8 @@ use lib.ListN.{length, take}
 use Rattle.counts.proofs.Laws.{by-test}
 use Rattle.splice.specs.Splice.{splice}
 use Rattle.tables.specs.declared.Head.{Head}
-use Rattle.tables.specs.Head.{headOf}
-use Rattle.tables.specs.Table.{table}
+use Rattle.unpacked.specs.Head.{headOf}
+use Rattle.unpacked.specs.Table.{table}
 use Rattle.description.specs.declared.Checked.the-variants.{Accepted}
 use Rattle.printed.specs.Printed.{Short}
 use Rattle.compose.specs.Facts.{ItemsIn}

@@ -3,8 +3,8 @@
 use Prim.Native.Nat.{ℕ}
 use mathlib.Core.Path.{_≡_}
 use mathlib.Core.List.{List}
-use Rattle.tables.specs.Head.{headOf}
-use Rattle.tables.specs.Table.{table, literals}
+use Rattle.unpacked.specs.Head.{headOf}
+use Rattle.unpacked.specs.Table.{table, literals}
 use Rattle.description.specs.declared.Checked.the-variants.{Accepted}
 use Rattle.description.specs.Check.{checked}
 use Rattle.accepted.proofs.Accept.{accepted}

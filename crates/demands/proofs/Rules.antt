@@ -6,8 +6,8 @@ use mathlib.Core.List.{List}
 use mathlib.Core.Logic.{_↔_}
 use Rattle.file.specs.Trailer.{version}
 use Rattle.file.specs.Rule.{ruled}
-use Rattle.tables.specs.Head.{headOf}
-use Rattle.tables.specs.Table.{table, literals}
+use Rattle.unpacked.specs.Head.{headOf}
+use Rattle.unpacked.specs.Table.{table, literals}
 use Rattle.description.specs.declared.Checked.the-variants.{Accepted}
 use Rattle.description.specs.Check.{from3, from4, from5, from6, from7, from8, judged, checked}
 use Rattle.accepted.proofs.Accept.{judged-passes, checked-d1, checked-judged}

@@ -9,8 +9,9 @@ use lib.Dec.{eqb}
 use lib.ListN.{length, length-set, length-replicate}
 use Rattle.counts.proofs.Laws.{by-test, by-cond}
 use Rattle.tables.specs.declared.Head.{Head}
-use Rattle.tables.specs.Head.{headOf}
-use Rattle.tables.specs.Table.{table, literals, lineCount}
+use Rattle.unpacked.specs.Head.{headOf}
+use Rattle.tables.specs.Table.{lineCount}
+use Rattle.unpacked.specs.Table.{table, literals}
 use Rattle.lookup.specs.Find.{theDetail, details}
 use Rattle.accepted.proofs.Accept.{accepted}
 use Rattle.pages.specs.Outcome.{pastLast, tooShort, outcome}

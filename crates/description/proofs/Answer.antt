@@ -11,10 +11,11 @@ use Rattle.file.specs.Rule.{ruled}
 use Rattle.file.specs.Trailer.{version}
 use Rattle.file.specs.Sections.{ruleD1}
 use Rattle.tables.specs.declared.Head.{Head}
-use Rattle.tables.specs.Head.{headOf}
-use Rattle.tables.specs.Section.{literalSection, numbersOf}
-use Rattle.tables.specs.Table.{numbers, table, numbersMax, literals}
-use Rattle.tables.proofs.Says.{ends, long, few, numbers-head}
+use Rattle.unpacked.specs.Head.{headOf, numbersOf}
+use Rattle.tables.specs.Section.{literalSection}
+use Rattle.unpacked.specs.Table.{numbers, table, numbersMax, literals}
+use Rattle.file.proofs.D1.{ends, long}
+use Rattle.unpacked.proofs.Says.{few, numbers-head}
 use Rattle.fields.specs.Page.{ruleD2}
 use Rattle.fields.specs.Fields.{ruleD3}
 use Rattle.fields.specs.Controls.{ruleD4}

@@ -8,8 +8,8 @@ use Rattle.file.specs.Trailer.{HasTrailer, start, count}
 use Rattle.file.specs.Sections.{ruleD1}
 use Rattle.tables.specs.declared.Head.{Head}
 use Rattle.tables.specs.Section.{literalSection}
-use Rattle.tables.specs.Head.{headOf}
-use Rattle.tables.specs.Table.{numbers}
+use Rattle.unpacked.specs.Head.{headOf}
+use Rattle.unpacked.specs.Table.{numbers}
 
 -- the trailer and the literal bytes lie inside the file
 abbrev pub LiteralsIn : List ℕ → Type 0

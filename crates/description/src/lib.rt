@@ -2,7 +2,7 @@
 ghost use mathlib.Core.Path.{_≡_};
 ghost use Rattle.description.specs.Check.{checked, judged};
 ghost use Rattle.description.specs.Refusal.{number, extra, Answers};
-ghost use Rattle.tables.specs.Table.{literals};
+ghost use Rattle.unpacked.specs.Table.{literals};
 ghost use Rattle.description.specs.Facts.{LiteralsIn, TableRoom};
 use file::Rule;
 use tables::Head;
@@ -79,7 +79,7 @@ fn check_in(d: &[u8], h: Head, t: &mut [u16]) -> Checked
     requires { ⌜ TableRoom (now d) h (now t) ⌝ }
     ensures { λ r. ⌜ r ≡ checked (now (d .entry)) ⌝ }
 {
-    tables::unpack(d, t);
+    unpacked::unpack(d, t);
     judge(t, h, file::version_of(d), literals_of(d))
 }
 
@@ -90,8 +90,8 @@ pub fn check(d: &[u8]) -> Checked
     let Rule::Passed = file::rule_d1(d) else {
         return Checked::Broken(1);
     };
-    let h = tables::head_of(d);
-    let n = tables::numbers_of(h);
-    let mut t = [tables::UNSET; tables::NUMBERS_MAX];
+    let h = unpacked::head_of(d);
+    let n = unpacked::numbers_of(h);
+    let mut t = [unpacked::UNSET; unpacked::NUMBERS_MAX];
     check_in(d, h, &mut t[..n])
 }

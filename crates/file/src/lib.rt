@@ -67,10 +67,12 @@ pub fn num_at(d: &[u8], at: usize) -> usize
     joined(d[at], d[at + 1]) as usize
 }
 
-// Sections, and the settings behind their starts and counts.
+// Sections, and the settings behind their starts and counts; of these R, the record length, is the last but the version.
 const SECTIONS: usize = 8;
 
 const SETTINGS: usize = 8;
+
+pub const RECORD_LENGTH: usize = 6;
 
 // What a version sets. There is one so far, so only the first of these looks at it.
 fn known_version(v: usize) -> bool
@@ -91,7 +93,10 @@ fn trailer_size(v: usize) -> usize
     4 * section_count(v) + 2 * SETTINGS
 }
 
-const SIZES: [usize; SECTIONS] = [6, 2, 12, 8, 12, 8, 6, 1];
+// Bytes of a field: the fields are the first section.
+pub const FIELD_SIZE: usize = 6;
+
+const SIZES: [usize; SECTIONS] = [FIELD_SIZE, 2, 12, 8, 12, 8, 6, 1];
 
 const LIMITS: [usize; SECTIONS] = [
     FIELDS_MAX,
@@ -215,7 +220,7 @@ fn sections_ok(d: &[u8]) -> bool
 }
 
 // "at least 48 bytes": no version has a shorter trailer, and below that none is read.
-const TRAILER_LEAST: usize = 4 * SECTIONS + 2 * SETTINGS;
+pub const TRAILER_LEAST: usize = 4 * SECTIONS + 2 * SETTINGS;
 
 fn has_trailer(d: &[u8]) -> bool
     ensures { λ r. ⌜ r ≡ leb (trailerSize (version (now (d .entry)))) (length (now (d .entry))) ⌝ }

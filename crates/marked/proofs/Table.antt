@@ -5,8 +5,8 @@ use Rattle.counts.specs.Below.{allBelow, sumBelow, firstBelow, listBelow, joinB
 use Rattle.file.specs.Number.{num, bytesOfNumbers}
 use Rattle.file.specs.Rule.{ruled}
 use Rattle.file.specs.Sections.{ruleD1}
-use Rattle.tables.specs.Head.{headOf}
-use Rattle.tables.specs.Table.{table, literals}
+use Rattle.unpacked.specs.Head.{headOf}
+use Rattle.unpacked.specs.Table.{table, literals}
 use Rattle.lookup.specs.Find.{theGroup, details, theDetail}
 use Rattle.lookup.specs.Shared.{sharedOut}
 use Rattle.fields.specs.Page.{ruleD2}

@@ -30,7 +30,7 @@ fn call_in(
     requires { ⌜ TableRoom (now d) h (now t) ⌝ }
     ensures { λ r. ⌜ Returns (callSpec (now (d .entry)) s asked (now (rec .entry)) (now (out .entry))) r (now (out .exit)) ⌝ }
 {
-    tables::unpack(d, t);
+    unpacked::unpack(d, t);
     let lits = description::literals_of(d);
     let judged = description::judge(t, h, file::version_of(d), lits);
     match judged {
@@ -49,13 +49,13 @@ pub fn call(s: State, d: &[u8], asked: Asked, rec: &[u8], out: &mut [u8]) -> Ans
     let Rule::Passed = file::rule_d1(d) else {
         return calls::refusal(s, Verdict::Description(1));
     };
-    let h = tables::head_of(d);
-    let n = tables::numbers_of(h);
+    let h = unpacked::head_of(d);
+    let n = unpacked::numbers_of(h);
     if n <= SMALL {
-        let mut t = [tables::UNSET; SMALL];
+        let mut t = [unpacked::UNSET; SMALL];
         return call_in(s, d, h, &mut t[..n], asked, rec, out);
     }
-    let mut t = [tables::UNSET; tables::NUMBERS_MAX];
+    let mut t = [unpacked::UNSET; unpacked::NUMBERS_MAX];
     call_in(s, d, h, &mut t[..n], asked, rec, out)
 }
 

@@ -2,8 +2,6 @@
 use Prim.Native.Nat.{ℕ, _+_, _*_}
 use mathlib.Core.List.{List, [], _∷_}
 use lib.ListN.{getD}
-use Rattle.counts.specs.Below.{sumBelow}
-use Rattle.file.specs.Trailer.{count}
 use Rattle.tables.specs.declared.Head.{Head}
 
 -- "fields, controls, groups, lines, items, counters, addends, literal bytes": the sections in the file's order
@@ -39,20 +37,12 @@ tableSections = 7
 abbrev pub words : ℕ → ℕ
 words k = getD (3 ∷ 1 ∷ 6 ∷ 4 ∷ 6 ∷ 4 ∷ 3 ∷ []) k 0
 
--- where section k starts in the table of a description: behind the entries of the sections before it
-abbrev pub tableStart : List ℕ → ℕ → ℕ
-tableStart d k = sumBelow k (λ i. words i * count d i)
-
 -- start and entry count of section k, as a head has them
 abbrev pub startOf : Head → ℕ → ℕ
 startOf h k = getD (0 ∷ h .cstart ∷ h .gstart ∷ h .lstart ∷ h .istart ∷ h .kstart ∷ h .astart ∷ []) k 0
 
 abbrev pub countOf : Head → ℕ → ℕ
 countOf h k = getD (h .fields ∷ h .controls ∷ h .groups ∷ h .lines ∷ h .items ∷ h .counters ∷ h .addends ∷ []) k 0
-
--- how many numbers the table under a head has: the addends end it
-abbrev pub numbersOf : Head → ℕ
-numbersOf h = h .astart + words addendSection * h .addends
 
 -- number j of entry i of section k, which starts at a place; a number past the end of the table counts as 0
 abbrev pub entryAt : List ℕ → ℕ → ℕ → ℕ → ℕ → ℕ

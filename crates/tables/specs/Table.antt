@@ -1,37 +1,10 @@
--- The table of a description: the numbers of every section but the literals, and what its entries are.
+-- What the entries of the table are: the numbers of every section but the literals, by name.
 use Prim.Native.Nat.{ℕ, _+_, _*_}
 use mathlib.Core.List.{List}
-use lib.ListN.{getD, take, drop}
-use Rattle.counts.specs.Below.{joinBelow}
-use Rattle.file.specs.Limits.{fieldsMax, controlsMax, groupsMax, linesMax, itemsMax, countersMax, addendsMax}
-use Rattle.file.specs.Trailer.{start, count}
+use lib.ListN.{getD}
 use Rattle.tables.specs.declared.Head.{Head}
 use Rattle.tables.specs.declared.Item.{Item}
-use Rattle.tables.specs.Section.{fieldSection, controlSection, groupSection, lineSection, itemSection, counterSection, addendSection, literalSection, tableSections, words, tableStart, entryAt, entry}
-use Rattle.tables.specs.Entry.{sectionNumbers}
-
--- how many numbers a description's table has: the entries of sections 0 to 6
-abbrev pub numbers : List ℕ → ℕ
-numbers d = tableStart d tableSections
-
--- the table: the numbers of each of these sections
-unfoldable pub table : List ℕ → List ℕ
-table d = joinBelow tableSections (sectionNumbers d)
-
--- "At most 32 fields, 8 controls, 32 groups, 128 lines, 512 items, 32 counters, 128 addends" are so many numbers
-abbrev pub numbersMax : ℕ
-numbersMax =
-    words fieldSection * fieldsMax
-    + words controlSection * controlsMax
-    + words groupSection * groupsMax
-    + words lineSection * linesMax
-    + words itemSection * itemsMax
-    + words counterSection * countersMax
-    + words addendSection * addendsMax
-
--- the literal bytes
-unfoldable pub literals : List ℕ → List ℕ
-literals d = take (count d literalSection) (drop (start d literalSection) d)
+use Rattle.tables.specs.Section.{fieldSection, controlSection, groupSection, lineSection, itemSection, counterSection, addendSection, words, entryAt, entry}
 
 -- "Field: kind (0 text, 1 number), offset, width." The fields start the table, so no head is asked.
 abbrev pub field : List ℕ → ℕ → ℕ → ℕ

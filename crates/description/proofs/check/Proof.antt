@@ -3,7 +3,7 @@
 use mathlib.Core.Path.{sym}
 use borrow.Author.Needs.{needs}
 use Rattle.file.proofs.Laws.{passed, failed}
-use Rattle.tables.specs.Table.{numbersMax}
+use Rattle.unpacked.specs.Table.{numbersMax}
 use Rattle.description.proofs.Answer.{answers, d1-broken, front, numbers-few, front-room}
 use Rattle.description.proofs.check.Statement.{statement}
 use Rattle.description.proofs.check.Tie as tie

@@ -2,7 +2,7 @@
 -- Assumes nothing.
 use native.Mathlib.Omega.{arith}
 use borrow.Author.Needs.{needs}
-use Rattle.tables.proofs.Says.{long}
+use Rattle.file.proofs.D1.{long}
 use Rattle.description.proofs.Answer.{d1-passed, literals-in}
 use Rattle.description.proofs.check_in.Statement.{statement}
 use Rattle.description.proofs.check_in.Tie as tie

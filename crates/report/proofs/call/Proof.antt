@@ -3,7 +3,7 @@
 use mathlib.Core.Path.{sym}
 use borrow.Author.Needs.{needs}
 use Rattle.file.proofs.Laws.{passed, failed}
-use Rattle.tables.specs.Table.{numbersMax}
+use Rattle.unpacked.specs.Table.{numbersMax}
 use Rattle.description.proofs.Answer.{d1-broken, front, numbers-few, front-room}
 use Rattle.report.proofs.Checked.{call-broken}
 use Rattle.report.proofs.call.Statement.{statement}

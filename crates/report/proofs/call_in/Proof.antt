@@ -3,7 +3,7 @@
 use mathlib.Core.Path.{sym, _∙_}
 use native.Mathlib.Omega.{arith}
 use borrow.Author.Needs.{needs}
-use Rattle.tables.proofs.Says.{long}
+use Rattle.file.proofs.D1.{long}
 use Rattle.description.proofs.Answer.{literals-in}
 use Rattle.report.proofs.Checked.{judged-so, accepted-so, call-so, call-broken}
 use Rattle.report.proofs.call_in.Statement.{statement}

@@ -1,4 +1,4 @@
--- `tables::unpack` meets its contract. The invariant: the numbers passed stand in the table.
+-- `unpacked::unpack` meets its contract. The invariant: the numbers passed stand in the table.
 -- Assumes nothing.
 use Prim.Native.Nat.{ℕ, _*_, _≤_, _<_, _-_}
 use mathlib.Core.Path.{_≡_, sym, _∙_}
@@ -8,11 +8,11 @@ use borrow.Author.Count.{below-none}
 use lib.ListN.{length, getD, length-set}
 use Rattle.counts.proofs.Laws.{list-filled}
 use Rattle.file.specs.Number.{num}
-use Rattle.tables.specs.Table.{numbers}
+use Rattle.unpacked.specs.Table.{numbers}
 use Rattle.tables.proofs.Fill.{fill-next}
-use Rattle.tables.proofs.Says.{inside, block}
-use Rattle.tables.proofs.unpack.Statement.{statement}
-use Rattle.tables.proofs.unpack.Tie as tie
+use Rattle.unpacked.proofs.Says.{inside, block}
+use Rattle.unpacked.proofs.unpack.Statement.{statement}
+use Rattle.unpacked.proofs.unpack.Tie as tie
 
 abbrev Inv-loop : tie.InvT-loop
 Inv-loop d t₀ n i₀ t i =

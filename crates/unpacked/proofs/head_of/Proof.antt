@@ -1,8 +1,9 @@
--- `tables::head_of` meets its contract: by D1 the trailer is there, and the table has at most its most numbers.
+-- `unpacked::head_of` meets its contract: by D1 the trailer is there, and the table has at most its most numbers.
 -- Assumes nothing.
-use Rattle.tables.proofs.Says.{long, few, numbers-head}
-use Rattle.tables.proofs.head_of.Statement.{statement}
-use Rattle.tables.proofs.head_of.Tie as tie
+use Rattle.file.proofs.D1.{long}
+use Rattle.unpacked.proofs.Says.{few, numbers-head}
+use Rattle.unpacked.proofs.head_of.Statement.{statement}
+use Rattle.unpacked.proofs.head_of.Tie as tie
 
 pub head-of-spec : {M : Type 1} → statement M
 head-of-spec =

@@ -1,11 +1,11 @@
--- `tables::numbers_of` meets its contract.
+-- `unpacked::numbers_of` meets its contract.
 -- Assumes nothing.
 use Prim.Native.Nat.{_*_, _≤_}
 use native.Mathlib.Omega.{arith}
 use borrow.Author.Needs.{needs}
 use Rattle.file.proofs.Laws.{product}
-use Rattle.tables.proofs.numbers_of.Statement.{statement}
-use Rattle.tables.proofs.numbers_of.Tie as tie
+use Rattle.unpacked.proofs.numbers_of.Statement.{statement}
+use Rattle.unpacked.proofs.numbers_of.Tie as tie
 
 small : (c : tie.After-wide2) → c .before .words-of .result * c .wide2 .result ≤ 524288
 small c = product (c .before .words-of .ensures .1) (c .wide2 .ensures .small)

@@ -1,8 +1,8 @@
--- `tables::settings_of` meets its contract, setting by setting.
+-- `unpacked::settings_of` meets its contract, setting by setting.
 -- Assumes nothing.
 use borrow.Author.Needs.{needs}
-use Rattle.tables.proofs.settings_of.Statement.{statement}
-use Rattle.tables.proofs.settings_of.Tie as tie
+use Rattle.unpacked.proofs.settings_of.Statement.{statement}
+use Rattle.unpacked.proofs.settings_of.Tie as tie
 
 pub settings-of-spec : {M : Type 1} → statement M
 settings-of-spec =

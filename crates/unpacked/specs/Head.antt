@@ -2,10 +2,10 @@
 use Prim.Native.Nat.{ℕ, _+_, _*_}
 use mathlib.Core.List.{List}
 use Rattle.file.specs.Trailer.{count, setting}
 use Rattle.tables.specs.declared.Head.{Head}
-use Rattle.tables.specs.declared.Counts.{Counts}
-use Rattle.tables.specs.declared.Settings.{Settings}
+use Rattle.unpacked.specs.declared.Counts.{Counts}
+use Rattle.unpacked.specs.declared.Settings.{Settings}
 use Rattle.tables.specs.Section.{fieldSection, controlSection, groupSection, lineSection, itemSection, counterSection, addendSection, literalSection, words}
 
 -- the "entry count of each section", as the trailer has it
 abbrev pub countsOf : List ℕ → Counts
@@ -66,3 +66,7 @@ headWith n p =
 
 abbrev pub headOf : List ℕ → Head
 headOf d = headWith (countsOf d) (settingsOf d)
+
+-- how many numbers the table under a head has: the addends end it
+abbrev pub numbersOf : Head → ℕ
+numbersOf h = h .astart + words addendSection * h .addends

@@ -3,24 +3,25 @@
 -- Assumes nothing.
 use Prim.Native.Nat.{ℕ, zero, suc, _+_, _*_, _≤_, _<_}
 use mathlib.Core.Path.{_≡_, refl, _∙_, ap, fun-ext}
-use mathlib.Core.Bool.{true, _&&_}
+use mathlib.Core.Bool.{true}
 use mathlib.Core.List.{List}
 use native.Mathlib.Nat.{add-assoc, mul-comm, mul-assoc, mul-left-comm, mul-add, mul-le-mul-left}
 use native.Mathlib.Numerals.{add-one}
 use native.Mathlib.Omega.{arith}
-use borrow.Author.Tests.{leb-true, eqb-true, lt-ltb}
-use lib.Dec.{leb, eqb}
+use borrow.Author.Tests.{eqb-true, lt-ltb}
+use lib.Dec.{eqb}
 use lib.ListN.{length}
 use Rattle.counts.specs.Below.{allBelow, sumBelow, listBelow}
-use Rattle.counts.proofs.Laws.{and-l, and-r, all-at, sum-same, length-listBelow, list-at, length-joinBelow, join-at, join-list}
-use Rattle.file.specs.Version.{known, trailerSize, entrySize, entryLimit}
+use Rattle.counts.proofs.Laws.{all-at, sum-same, length-listBelow, list-at, length-joinBelow, join-at, join-list}
+use Rattle.file.specs.Version.{entrySize}
 use Rattle.file.specs.Number.{num}
-use Rattle.file.specs.Trailer.{version, HasTrailer, start, count}
-use Rattle.file.specs.Sections.{sectionEnd, nextStart, sectionOk, ruleD1}
-use Rattle.tables.specs.Section.{tableSections, words, tableStart, startOf, numbersOf, entry}
-use Rattle.tables.specs.Head.{headOf}
-use Rattle.tables.specs.Table.{numbers, table, numbersMax}
-use Rattle.tables.specs.Entry.{inBytes, entryNumbers, sectionNumbers}
+use Rattle.file.specs.Trailer.{version, start, count}
+use Rattle.file.specs.Sections.{ruleD1}
+use Rattle.file.proofs.D1.{ends, counted, first}
+use Rattle.tables.specs.Section.{literalSection, tableSections, words, startOf, entry}
+use Rattle.unpacked.specs.Head.{headOf, numbersOf}
+use Rattle.unpacked.specs.Table.{tableStart, numbers, table, numbersMax}
+use Rattle.unpacked.specs.Entry.{inBytes, entryNumbers, sectionNumbers}
 
 starts : (d : List ℕ) (k : ℕ) → k < tableSections → startOf (headOf d) k ≡ tableStart d k
 unfolding sumBelow
@@ -51,54 +52,32 @@ says d k l i m j n =
     (join-at (entryNumbers d k) (λ i. words k) (λ i. length-listBelow (words k) (inBytes d k i)) 0 i (count d k) j m n ∙ list-at 0 (words k) (inBytes d k i) j n)
 
 module _ (d : List ℕ) (passes : ruleD1 d ≡ true) where
-  section : (k : ℕ) → k < 8 → sectionOk d k ≡ true
-  unfolding ruleD1
-  section k l = all-at (sectionOk d) k 8 l (and-r (leb (trailerSize (version d)) (length d) && known (version d) && eqb (start d 0) 0) (allBelow 8 (sectionOk d)) passes)
-
-  -- a section ends where the next begins, and has at most its limit
-  pub ends : (k : ℕ) → k < 8 → sectionEnd d k ≡ nextStart d k
-  ends k l = eqb-true _ _ (and-r (leb (count d k) (entryLimit (version d) k)) _ (section k l))
-
-  pub counted : (k : ℕ) → k < 8 → count d k ≤ entryLimit (version d) k
-  counted k l = leb-true _ _ (and-l (leb (count d k) (entryLimit (version d) k)) _ (section k l))
-
-  front : (leb (trailerSize (version d)) (length d) && known (version d) && eqb (start d 0) 0) ≡ true
-  unfolding ruleD1
-  front = and-l _ (allBelow 8 (sectionOk d)) passes
-
-  pub first : start d 0 ≡ 0
-  first = eqb-true _ _ (and-r (leb (trailerSize (version d)) (length d) && known (version d)) (eqb (start d 0) 0) front)
-
-  -- "at least 48 bytes"
-  pub long : HasTrailer d
-  long = leb-true _ _ (and-l _ (known (version d)) (and-l (leb (trailerSize (version d)) (length d) && known (version d)) (eqb (start d 0) 0) front))
-
   -- version 1 has two bytes in the file for each number of the table
-  two-bytes : (k : ℕ) → k < 7 → entrySize (version d) k ≡ 2 * words k
+  two-bytes : (k : ℕ) → k < tableSections → entrySize (version d) k ≡ 2 * words k
   unfolding allBelow
-  two-bytes k l = eqb-true _ _ (all-at (λ k. eqb (entrySize (version d) k) (2 * words k)) k 7 l refl)
+  two-bytes k l = eqb-true _ _ (all-at (λ k. eqb (entrySize (version d) k) (2 * words k)) k tableSections l refl)
 
   -- so that a section's start in the file is twice its start in the table
   place : (k : ℕ) → k ≤ tableSections → start d k ≡ 2 * tableStart d k
   unfolding sumBelow
-  place zero l = first
+  place zero l = first d passes
   place (suc k) l =
-      let b : k < 7 = omega arith in
+      let b : k < tableSections = omega arith in
       let a = place k (omega arith) in
-      let e : start d k + count d k * entrySize (version d) k ≡ start d (k + 1) = rw (lt-ltb k 7 b) at (ends k (omega arith)) in
+      let e : start d k + count d k * entrySize (version d) k ≡ start d (k + 1) = rw (lt-ltb k tableSections b) at (ends d passes k (omega arith)) in
       let m : count d k * entrySize (version d) k ≡ 2 * (words k * count d k) = rw (two-bytes k b, mul-comm (words k) (count d k)) (mul-left-comm (count d k) 2 (words k)) in
       rw (← add-one k) (omega arith)
 
   pub few : numbers d ≤ numbersMax
   unfolding sumBelow
   few =
-      let c0 = counted 0 (omega arith) in let c1 = counted 1 (omega arith) in let c2 = counted 2 (omega arith) in
-      let c3 = counted 3 (omega arith) in let c4 = counted 4 (omega arith) in let c5 = counted 5 (omega arith) in
-      let c6 = counted 6 (omega arith) in
+      let c0 = counted d passes 0 (omega arith) in let c1 = counted d passes 1 (omega arith) in let c2 = counted d passes 2 (omega arith) in
+      let c3 = counted d passes 3 (omega arith) in let c4 = counted d passes 4 (omega arith) in let c5 = counted d passes 5 (omega arith) in
+      let c6 = counted d passes 6 (omega arith) in
       omega arith
 
   pub inside : 2 * numbers d ≤ length d
-  inside = omega (arith, place 7 (omega arith), ends 7 (omega arith))
+  inside = omega (arith, place tableSections (omega arith), ends d passes literalSection (omega arith))
 
   -- and the table is the numbers of the file up to the literals
   pub block : table d ≡ listBelow (numbers d) (λ a. num d (2 * a))

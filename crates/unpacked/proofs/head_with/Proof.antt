@@ -1,9 +1,9 @@
--- `tables::head_with` meets its contract, start by start.
+-- `unpacked::head_with` meets its contract, start by start.
 -- Assumes nothing.
 use native.Mathlib.Nat.{zero-add}
 use borrow.Author.Needs.{needs}
-use Rattle.tables.proofs.head_with.Statement.{statement}
-use Rattle.tables.proofs.head_with.Tie as tie
+use Rattle.unpacked.proofs.head_with.Statement.{statement}
+use Rattle.unpacked.proofs.head_with.Tie as tie
 
 pub head-with-spec : {M : Type 1} → statement M
 head-with-spec =

@@ -1,8 +1,8 @@
--- `tables::counts_of` meets its contract, count by count.
+-- `unpacked::counts_of` meets its contract, count by count.
 -- Assumes nothing.
 use borrow.Author.Needs.{needs}
-use Rattle.tables.proofs.counts_of.Statement.{statement}
-use Rattle.tables.proofs.counts_of.Tie as tie
+use Rattle.unpacked.proofs.counts_of.Statement.{statement}
+use Rattle.unpacked.proofs.counts_of.Tie as tie
 
 pub counts-of-spec : {M : Type 1} → statement M
 counts-of-spec =
