@@ -7,12 +7,15 @@ use mathlib.Core.List.{List}
 use native.Mathlib.Omega.{arith}
 use borrow.Author.Tests.{leb-true}
 use Rattle.counts.proofs.Laws.{and-l, and-r}
+use Rattle.file.specs.Limits.{lineMax, controlsMax, groupsMax, countersMax}
 use Rattle.file.specs.Rule.{ruled}
+use Rattle.file.specs.Trailer.{version}
 use Rattle.file.specs.Sections.{ruleD1}
 use Rattle.tables.specs.declared.Head.{Head}
-use Rattle.tables.specs.Head.{headOf}
-use Rattle.tables.specs.Table.{table, literals}
-use Rattle.tables.proofs.Says.{counted}
+use Rattle.tables.specs.Section.{controlSection, groupSection, counterSection}
+use Rattle.unpacked.specs.Head.{headOf}
+use Rattle.unpacked.specs.Table.{table, literals}
+use Rattle.file.proofs.D1.{counted}
 use Rattle.fields.specs.Page.{ruleD2}
 use Rattle.fields.specs.Fields.{ruleD3}
 use Rattle.fields.specs.Controls.{ruleD4}
@@ -38,9 +41,9 @@ unfolding ruled
 rest-passed k true rest e = e
 rest-passed k false rest e = let z : _≡_ {A = ℕ} 0 1 = cc in absurd (omega arith)
 
--- the rules that the tables pass
-pub record Passes (h : Head) (t lits : List ℕ) : Type 0 where
-  pub d2 : ruleD2 h ≡ true
+-- the rules that the tables pass, in a description of version v
+pub record Passes (v : ℕ) (h : Head) (t lits : List ℕ) : Type 0 where
+  pub d2 : ruleD2 v h ≡ true
   pub d3 : ruleD3 h t ≡ true
   pub d4 : ruleD4 h t ≡ true
   pub d5 : ruleD5 h t ≡ true
@@ -48,17 +51,17 @@ pub record Passes (h : Head) (t lits : List ℕ) : Type 0 where
   pub d7 : ruleD7 h t lits ≡ true
   pub d8 : ruleD8 h t ≡ true
 
-pub judged-passes : (h : Head) (t lits : List ℕ) → judged h t lits ≡ Accepted → Passes h t lits
+pub judged-passes : (v : ℕ) (h : Head) (t lits : List ℕ) → judged v h t lits ≡ Accepted → Passes v h t lits
 unfolding judged from3 from4 from5 from6 from7 from8
-judged-passes h t lits e =
-    let e3 = rest-passed 2 (ruleD2 h) (from3 h t lits) e in
+judged-passes v h t lits e =
+    let e3 = rest-passed 2 (ruleD2 v h) (from3 h t lits) e in
     let e4 = rest-passed 3 (ruleD3 h t) (from4 h t lits) e3 in
     let e5 = rest-passed 4 (ruleD4 h t) (from5 h t lits) e4 in
     let e6 = rest-passed 5 (ruleD5 h t) (from6 h t lits) e5 in
     let e7 = rest-passed 6 (ruleD6 h t) (from7 h t lits) e6 in
     let e8 = rest-passed 7 (ruleD7 h t lits) (from8 h t) e7 in
     record {
-      d2 = rule-passed 2 (ruleD2 h) (from3 h t lits) e;
+      d2 = rule-passed 2 (ruleD2 v h) (from3 h t lits) e;
       d3 = rule-passed 3 (ruleD3 h t) (from4 h t lits) e3;
       d4 = rule-passed 4 (ruleD4 h t) (from5 h t lits) e4;
       d5 = rule-passed 5 (ruleD5 h t) (from6 h t lits) e5;
@@ -69,18 +72,18 @@ judged-passes h t lits e =
 
 pub checked-d1 : (d : List ℕ) → checked d ≡ Accepted → ruleD1 d ≡ true
 unfolding checked
-checked-d1 d e = rule-passed 1 (ruleD1 d) (judged (headOf d) (table d) (literals d)) e
+checked-d1 d e = rule-passed 1 (ruleD1 d) (judged (version d) (headOf d) (table d) (literals d)) e
 
-pub checked-judged : (d : List ℕ) → checked d ≡ Accepted → judged (headOf d) (table d) (literals d) ≡ Accepted
+pub checked-judged : (d : List ℕ) → checked d ≡ Accepted → judged (version d) (headOf d) (table d) (literals d) ≡ Accepted
 unfolding checked
-checked-judged d e = rest-passed 1 (ruleD1 d) (judged (headOf d) (table d) (literals d)) e
+checked-judged d e = rest-passed 1 (ruleD1 d) (judged (version d) (headOf d) (table d) (literals d)) e
 
 -- from the rules of the tables, with D1's limits
-pub rules-give : (h : Head) (t lits : List ℕ) → h .controls ≤ 8 → h .groups ≤ 32 → h .counters ≤ 32 → Passes h t lits → facts.Accepted h t lits
+pub rules-give : (v : ℕ) (h : Head) (t lits : List ℕ) → h .controls ≤ controlsMax → h .groups ≤ groupsMax → h .counters ≤ countersMax → Passes v h t lits → facts.Accepted h t lits
 unfolding ruleD2
-rules-give h t lits c g k r =
+rules-give v h t lits c g k r =
     let e2 = r .d2 in
-    let w : h .width ≤ 132 = leb-true _ _ (search (and-l, and-r) depth 14) in
+    let w : h .width ≤ lineMax = leb-true _ _ (search (and-l, and-r) depth 14) in
     let n = details-few h t (r .d5) in
     record {
       controls8 = c;
@@ -95,13 +98,13 @@ rules-give h t lits c g k r =
       controlsIn = controls-in h t (r .d4);
       countersIn = counters-in h t k (r .d8);
       itemsIn = items-in h t lits (r .d7) w;
-      small = small h t (r .d2) (r .d5) (r .d6);
-      pageFits = page-fits h t (r .d2) (r .d5) (r .d6);
+      small = small v h t (r .d2) (r .d5) (r .d6);
+      pageFits = page-fits v h t (r .d2) (r .d5) (r .d6);
     }
 
 -- what CHECK's acceptance gives
 pub accepted : (d : List ℕ) → checked d ≡ Accepted → facts.Accepted (headOf d) (table d) (literals d)
 accepted d e =
     let o = checked-d1 d e in
-    rules-give (headOf d) (table d) (literals d) (counted d o 1 (omega arith)) (counted d o 2 (omega arith)) (counted d o 5 (omega arith))
-    (judged-passes (headOf d) (table d) (literals d) (checked-judged d e))
+    rules-give (version d) (headOf d) (table d) (literals d) (counted d o controlSection (omega arith)) (counted d o groupSection (omega arith)) (counted d o counterSection (omega arith))
+    (judged-passes (version d) (headOf d) (table d) (literals d) (checked-judged d e))

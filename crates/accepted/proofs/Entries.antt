@@ -10,6 +10,7 @@ use lib.ListN.{length, getD}
 use borrow.Author.Tests.{leb-true, ltb-true, eqb-true}
 use Rattle.ascii.proofs.Laws.{printable-there}
 use Rattle.counts.proofs.Laws.{by-test, and-l, and-r, all-at}
+use Rattle.file.specs.Limits.{lineMax, countersMax}
 use Rattle.tables.specs.declared.Head.{Head}
 use Rattle.tables.specs.Table.{fieldKind, fieldWidth, control, final, firstLine, lineCount, firstItem, itemCount, itemColumn, itemWidth, itemKind, itemIndex, itemOf, firstAddend, addendCount, addendKind}
 use Rattle.lookup.specs.Find.{details}
@@ -66,7 +67,7 @@ module _ (h : Head) (t : List ℕ) where
     counter = λ q. let f = addend-counter d k a e q in ltb-true _ _ (search (and-l, and-r));
   }
 
-  pub counters-in : h .counters ≤ 32 → ruleD8 h t ≡ true → CountersIn h t
+  pub counters-in : h .counters ≤ countersMax → ruleD8 h t ≡ true → CountersIn h t
   unfolding ruleD8 counterOk addendsOk ownAddendOk
   counters-in few e = record {
     few = few;
@@ -151,5 +152,5 @@ module _ (h : Head) (t : List ℕ) where
             decimals = leb-true _ _ (search (and-l, and-r) depth 8);
           }
 
-      pub items-in : h .width ≤ 132 → ItemsIn h t lits
+      pub items-in : h .width ≤ lineMax → ItemsIn h t lits
       items-in w = record { sized = record { width = w; literals = literals-there }; each = item-in }

@@ -9,6 +9,7 @@ use lib.Dec.{leb, eqb}
 use borrow.Author.Tests.{leb-true, eqb-true, ne-eqb}
 use Rattle.counts.specs.Below.{bit, allBelow, sumBelow, firstBelow}
 use Rattle.counts.proofs.Laws.{and-l, and-r, or-r, all-at, sum-part, first-at}
+use Rattle.file.specs.Limits.{detailsMax, groupLinesMax}
 use Rattle.tables.specs.declared.Head.{Head}
 use Rattle.tables.specs.Table.{typeOf, lineCount}
 use Rattle.lookup.specs.Find.{isDetail, theDetail, detailBit, details}
@@ -22,7 +23,7 @@ module _ (h : Head) (t : List ℕ) (e : ruleD5 h t ≡ true) where
   unfolding ruleD5
   group-ok i l = all-at (groupOk h t) i (h .groups) l (search (and-l, and-r) depth 8)
 
-  pub details-few : (1 ≤ details h t) × (details h t ≤ 8)
+  pub details-few : (1 ≤ details h t) × (details h t ≤ detailsMax)
   unfolding ruleD5
   details-few = search (and-l, and-r, leb-true) depth 8
 
@@ -43,7 +44,7 @@ module _ (h : Head) (t : List ℕ) where
 module _ (h : Head) (t : List ℕ) (e : ruleD6 h t ≡ true) where
   -- what is tested of a group with lines
   pub record Lined (i : ℕ) : Type 0 where
-    pub few : leb (lineCount h t i) 16 ≡ true
+    pub few : leb (lineCount h t i) groupLinesMax ≡ true
     pub first : firstOk h t i ≡ true
     pub rest : allBelow (later h t i) (laterOk h t i) ≡ true
     pub fit : groupFits h t i ≡ true

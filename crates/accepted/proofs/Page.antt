@@ -11,6 +11,7 @@ use lib.Dec.{leb, ltb, eqb}
 use borrow.Author.Tests.{leb-true, ltb-true, eqb-true, eqb-false, eq-eqb, ne-eqb, le-leb}
 use Rattle.counts.specs.Below.{sumBelow}
 use Rattle.counts.proofs.Laws.{by-test, by-cond, and-l, and-r, all-at}
+use Rattle.file.specs.Limits.{groupLinesMax, pageLinesMax}
 use Rattle.tables.specs.declared.Head.{Head}
 use Rattle.tables.specs.Table.{typeOf, lineCount, nextKind, nextBy}
 use Rattle.fields.specs.Page.{ruleD2}
@@ -74,16 +75,16 @@ later-start false top e n s fd a l p q = (omega arith, omega arith)
 
 -- ---- the next group, by kind
 next-in : (f : Frame) (type by k : ℕ) →
-    (eqb k 0 && eqb by 0 || leb 2 type && leb type 4 && (eqb k 1 && leb (f .fd) by && leb by (f .ft) || eqb k 2 && leb 1 by && leb by 999 || eqb k 3 && eqb by 0)) ≡ true → NextIn f (asNext k by)
+    (eqb k 0 && eqb by 0 || leb 2 type && leb type 4 && (eqb k 1 && leb (f .fd) by && leb by (f .ft) || eqb k 2 && leb 1 by && leb by pageLinesMax || eqb k 3 && eqb by 0)) ≡ true → NextIn f (asNext k by)
 next-in f type by zero e = tt
 next-in f type by (suc zero) e =
     let a : (leb (f .fd) by && leb by (f .ft) || false || false) ≡ true = and-r (leb 2 type && leb type 4) _ e in
     let b : (leb (f .fd) by && leb by (f .ft)) ≡ true = or-no _ (or-no _ a) in
     search (and-l, and-r, leb-true)
 next-in f type by (suc (suc zero)) e =
-    let a : (leb 1 by && leb by 999 || false) ≡ true = and-r (leb 2 type && leb type 4) _ e in
-    let b : (leb 1 by && leb by 999) ≡ true = or-no _ a in
-    leb-true _ _ (and-l (leb 1 by) (leb by 999) b)
+    let a : (leb 1 by && leb by pageLinesMax || false) ≡ true = and-r (leb 2 type && leb type 4) _ e in
+    let b : (leb 1 by && leb by pageLinesMax) ≡ true = or-no _ a in
+    leb-true _ _ (and-l (leb 1 by) (leb by pageLinesMax) b)
 next-in f type by (suc (suc (suc k))) e =
     simp (ne-eqb (suc (suc (suc k))) 0 (λ q. omega arith), ne-eqb (suc (suc (suc k))) 1 (λ q. omega arith), ne-eqb (suc (suc (suc k))) 2 (λ q. omega arith)) tt
 
@@ -92,14 +93,14 @@ unfolding sumBelow
 sum-bound f m zero b = omega arith
 sum-bound f m (suc n) b = let z = sum-bound f m n (λ k l. b k (omega arith)) in let y = b n (omega arith) in let w : m * suc n ≡ m * n + m = mul-suc m n in omega arith
 
-module _ (h : Head) (t : List ℕ) (e2 : ruleD2 h ≡ true) (e5 : ruleD5 h t ≡ true) (e6 : ruleD6 h t ≡ true) where
+module _ (v : ℕ) (h : Head) (t : List ℕ) (e2 : ruleD2 v h ≡ true) (e5 : ruleD5 h t ≡ true) (e6 : ruleD6 h t ≡ true) where
   record Order : Type 0 where
     top1 : 1 ≤ h .top
     topFd : h .top ≤ h .fd
     fdLd : h .fd ≤ h .ld
     ldFt : h .ld ≤ h .ft
     ftPage : h .ft ≤ h .page
-    page999 : h .page ≤ 999
+    page999 : h .page ≤ pageLinesMax
 
   order : Order
   unfolding ruleD2
@@ -119,7 +120,7 @@ module _ (h : Head) (t : List ℕ) (e2 : ruleD2 h ≡ true) (e5 : ruleD5 h t ≡
   tested : (i : ℕ) → present h t i ≡ true → Lined h t e6 i
   tested i p = lined h t e6 i (inside i p) (ltb-true _ _ (and-r (ltb i (h .groups)) (ltb 0 (lineCount h t i)) p))
 
-  first-in : (i : ℕ) → present h t i ≡ true → (kindOf h t i ≤ 2) × (1 ≤ firstInt h t i) × (firstInt h t i ≤ 999)
+  first-in : (i : ℕ) → present h t i ≡ true → (kindOf h t i ≤ 2) × (1 ≤ firstInt h t i) × (firstInt h t i ≤ pageLinesMax)
   unfolding firstOk
   first-in i p =
       let q = tested i p .first in
@@ -135,7 +136,7 @@ module _ (h : Head) (t : List ℕ) (e2 : ruleD2 h ≡ true) (e5 : ruleD5 h t ≡
   unfolding span
   span-in i p =
       let a = sum-bound (step h t i) 99 (later h t i) (λ k l. step-in i k p l .1) in
-      let b : lineCount h t i ≤ 16 = leb-true _ _ (tested i p .few) in
+      let b : lineCount h t i ≤ groupLinesMax = leb-true _ _ (tested i p .few) in
       omega arith
 
   pub small : Small h t

@@ -91,8 +91,8 @@ fn span(first: u64, width: u64) {
 
 // Fields stand first in the description: kind, offset, width; 2 bytes each.
 fn field_span(d: &[u8], k: u64) {
-    if k < 32 {
-        let at = 6 * k as usize;
+    if k < file::FIELDS_MAX as u64 {
+        let at = file::FIELD_SIZE * k as usize;
         span(number_at(d, at + 2), number_at(d, at + 4));
     }
 }
@@ -104,13 +104,12 @@ fn malformed_field(d: &[u8], k: u64) {
     say(b" is malformed");
 }
 
-// The described length stands last but one in the description.
+// The described length of a record.
 fn described_length(d: &[u8]) -> u64 {
-    let n = d.len();
-    if n < 4 {
+    if d.len() < file::TRAILER_LEAST {
         return 0;
     }
-    number_at(d, n - 4)
+    file::setting_of(d, file::RECORD_LENGTH) as u64
 }
 
 fn wrong_length(d: &[u8], length: usize) {

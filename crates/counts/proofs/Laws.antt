@@ -1,4 +1,4 @@
--- Laws of `allBelow`, `sumBelow`, `firstBelow`, `foldBelow` and `listBelow`: what loops show, and what a passed test says at an index.
+-- Laws of `allBelow`, `sumBelow`, `firstBelow`, `foldBelow`, `listBelow` and `joinBelow`: what loops show, and what a passed test says at an index.
 --     all-next    one turn of a loop that keeps a flag
 --     all-at      an index of a test that passed
 --     sum-next    one turn of a running total
@@ -6,20 +6,22 @@
 --     first-at, first-upto      the index found passes, and none before it does
 --     fold-next   one turn of a fold
 --     list-at, list-filled      an entry of a list made of f, and a list that has f at each index
+--     join-at     an entry of a join, by the lengths of its lists
+--     join-list   the parts of one list, joined
 -- Assumes nothing.
 use mathlib.Core.Path.{_≡_, refl, sym, _∙_, ap}
-use mathlib.Core.List.{List}
-use lib.ListN.{length, getD}
-use lib.Seq.{ext-getD}
+use mathlib.Core.List.{List, _∷_, _++_}
+use lib.ListN.{length, getD, length-append, List·getD-append}
+use lib.Seq.{ext-getD, getD-append-add}
 use mathlib.Core.Logic.{⊎-elim}
 use mathlib.Core.Bool.{Bool, true, false, cond, _&&_, _||_, false≢true}
-use Prim.Native.Nat.{ℕ, zero, suc, _+_, _≤_, _<_}
-use native.Mathlib.Nat.{le-of-suc-le-suc, not-suc-le-zero, eq-or-lt-of-le}
+use Prim.Native.Nat.{ℕ, zero, suc, _+_, _*_, _≤_, _<_}
+use native.Mathlib.Nat.{le-of-suc-le-suc, not-suc-le-zero, eq-or-lt-of-le, zero-add, suc-add, mul-suc}
 use native.Mathlib.Numerals.{add-one}
 use native.Mathlib.Omega.{arith}
 use lib.Dec.{ltb}
 use borrow.Author.Tests.{lt-ltb, le-ltb, ltb-true, ltb-false}
-use Rattle.counts.specs.Below.{allBelow, sumBelow, firstBelow, foldBelow, listBelow}
+use Rattle.counts.specs.Below.{allBelow, sumBelow, firstBelow, foldBelow, listBelow, joinBelow}
 
 -- cases on a test, each with what the test says
 pub by-test : {X : Type 0} (t : Bool) → (t ≡ true → X) → (t ≡ false → X) → X
@@ -113,6 +115,11 @@ sum-part f i zero h = absurd (not-suc-le-zero h)
 sum-part f i (suc n) h =
     ⊎-elim (λ (q : i ≡ n). rw q (omega arith)) (λ (l : i < n). let z = sum-part f i n l in omega arith) (eq-or-lt-of-le (le-of-suc-le-suc h))
 
+pub sum-same : (c n : ℕ) → sumBelow n (λ i. c) ≡ c * n
+unfolding sumBelow
+sum-same c zero = omega arith
+sum-same c (suc n) = let e = sum-same c n in omega (arith, mul-suc c n)
+
 -- one turn of a fold
 pub fold-next : {A : Type 0} (f : ℕ → A → A) (i : ℕ) (a : A) {s r : A} → s ≡ foldBelow i f a → r ≡ f i s → r ≡ foldBelow (i + 1) f a
 unfolding foldBelow
@@ -135,3 +142,32 @@ pub list-filled : {A : Type 0} (x : A) (f : ℕ → A) (n : ℕ) (t : List A) �
 list-filled x f n t l h =
     ext-getD x t (listBelow n f) (l ∙ sym (length-listBelow n f))
     (λ k b. let b' : k < n = omega arith in h k b' ∙ sym (list-at x n f k b'))
+
+list-append : {A : Type 0} (a b : ℕ) (g : ℕ → A) → listBelow (a + b) g ≡ listBelow a g ++ listBelow b (λ j. g (a + j))
+unfolding listBelow
+list-append zero b g = simp zero-add refl
+list-append (suc a) b g = simp suc-add (ap (_∷_ (g 0)) (list-append a b (λ k. g (suc k))))
+
+-- lists joined, of which list i has w i entries
+
+module _ {A : Type 0} (f : ℕ → List A) (w : ℕ → ℕ) (wide : (i : ℕ) → length (f i) ≡ w i) where
+  pub length-joinBelow : (n : ℕ) → length (joinBelow n f) ≡ sumBelow n w
+  unfolding joinBelow sumBelow
+  length-joinBelow zero = refl
+  length-joinBelow (suc n) = rw (length-append, length-joinBelow n, wide n)
+
+  -- entry m of list k
+  pub join-at : (x : A) (k n m : ℕ) → k < n → m < w k → getD (joinBelow n f) (sumBelow k w + m) x ≡ getD (f k) m x
+  unfolding joinBelow
+  join-at x k zero m h l = absurd (not-suc-le-zero h)
+  join-at x k (suc n) m h l =
+      ⊎-elim (λ (q : k ≡ n). rw (q, ← length-joinBelow n) (getD-append-add (joinBelow n f) (f n) m x))
+      (λ (b : k < n). List·getD-append (joinBelow n f) (f n) x (sumBelow k w + m) (rw (length-joinBelow n) (omega (arith, sum-part w k n b))) ∙ join-at x k n m b l)
+      (eq-or-lt-of-le (le-of-suc-le-suc h))
+
+-- the parts of one list
+pub join-list : {A : Type 0} (f : ℕ → List A) (w : ℕ → ℕ) (g : ℕ → A) (n : ℕ) → ((i : ℕ) → i < n → f i ≡ listBelow (w i) (λ j. g (sumBelow i w + j)))
+    → joinBelow n f ≡ listBelow (sumBelow n w) g
+unfolding joinBelow sumBelow listBelow
+join-list f w g zero h = refl
+join-list f w g (suc n) h = rw (join-list f w g n (λ i l. h i (omega arith)), h n (omega arith)) (sym (list-append (sumBelow n w) (w n) g))

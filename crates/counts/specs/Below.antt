@@ -1,7 +1,7 @@
--- Over the indexes below a bound: a test of every one, a sum, the first that passes, a fold in order, a list.
+-- Over the indexes below a bound: a test of every one, a sum, the first that passes, a fold in order, a list, a join of lists.
 use Prim.Native.Nat.{ℕ, zero, suc, _+_}
 use mathlib.Core.Bool.{Bool, true, cond, _&&_}
-use mathlib.Core.List.{List, [], _∷_}
+use mathlib.Core.List.{List, [], _∷_, _++_}
 use lib.Dec.{ltb}
 
 -- 1 for a test that passes, 0 for one that fails
@@ -32,3 +32,8 @@ foldBelow (suc n) f a = f n (foldBelow n f a)
 unfoldable pub listBelow : {A : Type 0} → ℕ → (ℕ → A) → List A
 listBelow zero f = []
 listBelow (suc n) f = f 0 ∷ listBelow n (λ k. f (suc k))
+
+-- the lists f 0, f 1, .. f (n - 1), one behind the other
+unfoldable pub joinBelow : {A : Type 0} → ℕ → (ℕ → List A) → List A
+joinBelow zero f = []
+joinBelow (suc n) f = joinBelow n f ++ f n

@@ -12,8 +12,8 @@ use lib.ListN.{length}
 use Rattle.counts.proofs.Laws.{by-test}
 use Rattle.splice.proofs.Laws.{length-splice, drop-splice}
 use Rattle.tables.specs.declared.Head.{Head}
-use Rattle.tables.specs.Head.{headOf}
-use Rattle.tables.specs.Table.{table, literals}
+use Rattle.unpacked.specs.Head.{headOf}
+use Rattle.unpacked.specs.Table.{table, literals}
 use Rattle.description.specs.declared.Checked.the-variants.{Accepted}
 use Rattle.description.specs.Check.{checked}
 use Rattle.accepted.proofs.Accept.{accepted}

@@ -4,8 +4,8 @@ use mathlib.Core.Path.{_≡_}
 use mathlib.Core.List.{List, [], _∷_, _++_, map}
 use mathlib.Core.Logic.{_⊎_}
 use lib.ListN.{length, getD, take, drop}
-use Rattle.tables.specs.Head.{headOf}
-use Rattle.tables.specs.Table.{table}
+use Rattle.unpacked.specs.Head.{headOf}
+use Rattle.unpacked.specs.Table.{table}
 use Rattle.printed.specs.Printed.{noPrefix}
 use Rattle.call_text.specs.Bytes.{dueBytes, byteCount}
 use Rattle.pagination.specs.All.{All}

@@ -4,9 +4,10 @@ use mathlib.Core.Path.{_≡_}
 use mathlib.Core.Bool.{true}
 use mathlib.Core.List.{List}
 use mathlib.Core.Logic.{_↔_}
+use Rattle.file.specs.Trailer.{version}
 use Rattle.file.specs.Sections.{ruleD1}
-use Rattle.tables.specs.Head.{headOf}
-use Rattle.tables.specs.Table.{table, literals}
+use Rattle.unpacked.specs.Head.{headOf}
+use Rattle.unpacked.specs.Table.{table, literals}
 use Rattle.fields.specs.Page.{ruleD2}
 use Rattle.fields.specs.Fields.{ruleD3}
 use Rattle.fields.specs.Controls.{ruleD4}
@@ -25,10 +26,10 @@ use Rattle.book.specs.Demand.{Use, answer, run, Demand3}
 use Rattle.demands.specs.Calls.{Demand1}
 use Rattle.demands.specs.Bytes.{leaves, Demand1Bytes, Demand3Bytes}
 
--- document 01's rules of a description, D1 on its bytes and D2 to D8 on its tables
+-- document 01's rules of a description, D1 on its bytes and D2 to D8 on its tables; D2's limits are those of its version
 pub record KeepsRules (d : List ℕ) : Type 0 where
   pub d1 : ruleD1 d ≡ true
-  pub d2 : ruleD2 (headOf d) ≡ true
+  pub d2 : ruleD2 (version d) (headOf d) ≡ true
   pub d3 : ruleD3 (headOf d) (table d) ≡ true
   pub d4 : ruleD4 (headOf d) (table d) ≡ true
   pub d5 : ruleD5 (headOf d) (table d) ≡ true

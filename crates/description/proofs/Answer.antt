@@ -8,11 +8,14 @@ use native.Mathlib.Omega.{arith}
 use lib.ListN.{length, take, replicate, length-replicate}
 use lib.Seq.{length-take-le}
 use Rattle.file.specs.Rule.{ruled}
+use Rattle.file.specs.Trailer.{version}
 use Rattle.file.specs.Sections.{ruleD1}
 use Rattle.tables.specs.declared.Head.{Head}
-use Rattle.tables.specs.Head.{headOf}
-use Rattle.tables.specs.Table.{table, literals}
-use Rattle.tables.proofs.Says.{ends, long}
+use Rattle.unpacked.specs.Head.{headOf, numbersOf}
+use Rattle.tables.specs.Section.{literalSection}
+use Rattle.unpacked.specs.Table.{numbers, table, numbersMax, literals}
+use Rattle.file.proofs.D1.{ends, long}
+use Rattle.unpacked.proofs.Says.{few, numbers-head}
 use Rattle.fields.specs.Page.{ruleD2}
 use Rattle.fields.specs.Fields.{ruleD3}
 use Rattle.fields.specs.Controls.{ruleD4}
@@ -24,7 +27,7 @@ use Rattle.description.specs.declared.Checked.{Checked}
 use Rattle.description.specs.declared.Checked.the-variants.{Accepted, Broken}
 use Rattle.description.specs.Check.{orBroken, from3, from4, from5, from6, from7, from8, judged, checked}
 use Rattle.description.specs.Refusal.{number, extra, RuleIn, Answers}
-use Rattle.description.specs.Facts.{LiteralsIn}
+use Rattle.description.specs.Facts.{LiteralsIn, TableRoom}
 
 -- "first broken rule, 1 to 8"
 after-in : (n : ℕ) (b : Bool) (rest : Checked) → 1 ≤ n → n ≤ 8 → RuleIn rest → RuleIn (orBroken n (ruled b) rest)
@@ -32,10 +35,10 @@ unfolding ruled
 after-in n true rest l m s k e = s k e
 after-in n false rest l m s k e = let q : n ≡ k = cc in (omega arith, omega arith)
 
-judged-in : (h : Head) (t lits : List ℕ) → RuleIn (judged h t lits)
+judged-in : (v : ℕ) (h : Head) (t lits : List ℕ) → RuleIn (judged v h t lits)
 unfolding judged from3 from4 from5 from6 from7 from8
-judged-in h t lits =
-    after-in 2 (ruleD2 h) (from3 h t lits) (omega arith) (omega arith)
+judged-in v h t lits =
+    after-in 2 (ruleD2 v h) (from3 h t lits) (omega arith) (omega arith)
     (after-in 3 (ruleD3 h t) (from4 h t lits) (omega arith) (omega arith)
     (after-in 4 (ruleD4 h t) (from5 h t lits) (omega arith) (omega arith)
     (after-in 5 (ruleD5 h t) (from6 h t lits) (omega arith) (omega arith)
@@ -45,7 +48,7 @@ judged-in h t lits =
 
 pub broken-in : (d : List ℕ) → RuleIn (checked d)
 unfolding checked
-broken-in d = after-in 1 (ruleD1 d) (judged (headOf d) (table d) (literals d)) (omega arith) (omega arith) (judged-in (headOf d) (table d) (literals d))
+broken-in d = after-in 1 (ruleD1 d) (judged (version d) (headOf d) (table d) (literals d)) (omega arith) (omega arith) (judged-in (version d) (headOf d) (table d) (literals d))
 
 -- the answer of the definition, with its number and its extra number
 pub answers : (d : List ℕ) (r : Checked) → r ≡ checked d → Answers d r
@@ -71,14 +74,25 @@ pub d1-broken : (d : List ℕ) → ruleD1 d ≡ false → checked d ≡ Broken 1
 unfolding checked ruled
 d1-broken d e = rw e refl
 
-pub d1-passed : (d : List ℕ) → ruleD1 d ≡ true → checked d ≡ judged (headOf d) (table d) (literals d)
+pub d1-passed : (d : List ℕ) → ruleD1 d ≡ true → checked d ≡ judged (version d) (headOf d) (table d) (literals d)
 unfolding checked ruled
 d1-passed d e = rw e refl
 
 -- "literals ending at the trailer"
 pub literals-in : (d : List ℕ) → ruleD1 d ≡ true → LiteralsIn d
-literals-in d e = let l = long d e in let z = ends d e 7 (omega arith) in (l, omega arith)
+literals-in d e = let l = long d e in let z = ends d e literalSection (omega arith) in (l, omega arith)
 
 -- the front of an array that is lent for the table
 pub front : (n m x : ℕ) → n ≤ m → length (take n (replicate m x)) ≡ n
 front n m x l = length-take-le n (replicate m x) (rw (length-replicate m x) l)
+
+-- it has just room for the numbers of a description that keeps D1, which are no more than the most
+module _ (d : List ℕ) {h : Head} {n : ℕ} (o : ruleD1 d ≡ true) (eh : h ≡ headOf d) (en : n ≡ numbersOf h) where
+  counted : n ≡ numbers d
+  counted = en ∙ (ap numbersOf eh ∙ numbers-head d)
+
+  pub numbers-few : n ≤ numbersMax
+  numbers-few = omega (arith, counted, few d o)
+
+  pub front-room : (m x : ℕ) → n ≤ m → TableRoom d h (take n (replicate m x))
+  front-room m x l = record { d1 = o; head = eh; room = front n m x l ∙ counted }

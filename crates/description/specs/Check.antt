@@ -4,10 +4,11 @@ use mathlib.Core.List.{List}
 use Rattle.file.specs.declared.Rule.{Rule}
 use Rattle.file.specs.declared.Rule.the-variants.{Passed, Broken as Fails}
 use Rattle.file.specs.Rule.{ruled, brokenBy}
+use Rattle.file.specs.Trailer.{version}
 use Rattle.file.specs.Sections.{ruleD1}
 use Rattle.tables.specs.declared.Head.{Head}
-use Rattle.tables.specs.Head.{headOf}
-use Rattle.tables.specs.Table.{table, literals}
+use Rattle.unpacked.specs.Head.{headOf}
+use Rattle.unpacked.specs.Table.{table, literals}
 use Rattle.fields.specs.Page.{ruleD2}
 use Rattle.fields.specs.Fields.{ruleD3}
 use Rattle.fields.specs.Controls.{ruleD4}
@@ -41,9 +42,10 @@ from4 h t lits = orBroken 4 (ruled (ruleD4 h t)) (from5 h t lits)
 unfoldable pub from3 : Head → List ℕ → List ℕ → Checked
 from3 h t lits = orBroken 3 (ruled (ruleD3 h t)) (from4 h t lits)
 
-unfoldable pub judged : Head → List ℕ → List ℕ → Checked
-judged h t lits = orBroken 2 (ruled (ruleD2 h)) (from3 h t lits)
+-- D2 goes by the version, the rules after it by the tables alone
+unfoldable pub judged : ℕ → Head → List ℕ → List ℕ → Checked
+judged v h t lits = orBroken 2 (ruled (ruleD2 v h)) (from3 h t lits)
 
 -- the answer of CHECK
 unfoldable pub checked : List ℕ → Checked
-checked d = orBroken 1 (ruled (ruleD1 d)) (judged (headOf d) (table d) (literals d))
+checked d = orBroken 1 (ruled (ruleD1 d)) (judged (version d) (headOf d) (table d) (literals d))

@@ -2,11 +2,8 @@
 ghost use mathlib.Core.Path.{_≡_};
 ghost use Rattle.description.specs.Check.{checked, judged};
 ghost use Rattle.description.specs.Refusal.{number, extra, Answers};
-ghost use mathlib.Core.Bool.{true};
-ghost use lib.ListN.{length};
-ghost use Rattle.file.specs.Sections.{ruleD1};
-ghost use Rattle.tables.specs.Table.{numbers, literals};
-ghost use Rattle.description.specs.Facts.{LiteralsIn};
+ghost use Rattle.unpacked.specs.Table.{literals};
+ghost use Rattle.description.specs.Facts.{LiteralsIn, TableRoom};
 use file::Rule;
 use tables::Head;
 
@@ -38,12 +35,12 @@ impl Checked {
     }
 }
 
-// D2 to D8, on the tables.
-pub fn judge(t: &[u16], h: Head, lits: &[u8]) -> Checked
-    ensures { λ r. ⌜ r ≡ judged h (now (t .entry)) (now (lits .entry)) ⌝ }
+// D2 to D8 on the tables, of a description of version `v`.
+pub fn judge(t: &[u16], h: Head, v: usize, lits: &[u8]) -> Checked
+    ensures { λ r. ⌜ r ≡ judged v h (now (t .entry)) (now (lits .entry)) ⌝ }
 {
     let details = lookup::details_of(t, h);
-    let Rule::Passed = fields::rule_d2(h) else {
+    let Rule::Passed = fields::rule_d2(h, v) else {
         return Checked::Broken(2);
     };
     let Rule::Passed = fields::rule_d3(t, h) else {
@@ -72,18 +69,18 @@ pub fn literals_of(d: &[u8]) -> &[u8]
     requires { ⌜ LiteralsIn (now d) ⌝ }
     ensures { λ r. ⌜ now r ≡ literals (now (d .entry)) ⌝ }
 {
-    let start = file::start_of(d, 7);
-    let end = start + file::count_of(d, 7);
+    let start = file::start_of(d, tables::LITERALS);
+    let end = start + file::count_of(d, tables::LITERALS);
     &d[start..end]
 }
 
 // D2 to D8 of a description that keeps D1, in a table that has just room for its numbers.
-fn check_in(d: &[u8], t: &mut [u16]) -> Checked
-    requires { ⌜ (ruleD1 (now d) ≡ true) × (length (now t) ≡ numbers (now d)) ⌝ }
+fn check_in(d: &[u8], h: Head, t: &mut [u16]) -> Checked
+    requires { ⌜ TableRoom (now d) h (now t) ⌝ }
     ensures { λ r. ⌜ r ≡ checked (now (d .entry)) ⌝ }
 {
-    tables::unpack(d, t);
-    judge(t, tables::head_of(d), literals_of(d))
+    unpacked::unpack(d, t);
+    judge(t, h, file::version_of(d), literals_of(d))
 }
 
 // CHECK: any bytes, nothing written.
@@ -93,7 +90,8 @@ pub fn check(d: &[u8]) -> Checked
     let Rule::Passed = file::rule_d1(d) else {
         return Checked::Broken(1);
     };
-    let mut t = [tables::UNSET; tables::NUMBERS_MAX];
-    let n = tables::numbers_of(d);
-    check_in(d, &mut t[..n])
+    let h = unpacked::head_of(d);
+    let n = unpacked::numbers_of(h);
+    let mut t = [unpacked::UNSET; unpacked::NUMBERS_MAX];
+    check_in(d, h, &mut t[..n])
 }

@@ -9,12 +9,13 @@ ghost use Rattle.fields.specs.Controls.{differs, controlOk, ruleD4};
 use file::Rule;
 use tables::Head;
 
-pub fn rule_d2(h: Head) -> Rule
-    ensures { λ r. ⌜ r ≡ ruled (ruleD2 h) ⌝ }
+// D2 under version `v`, which sets the widest line and the longest record.
+pub fn rule_d2(h: Head, v: usize) -> Rule
+    ensures { λ r. ⌜ r ≡ ruled (ruleD2 v h) ⌝ }
 {
-    let v = tables::wide(h.version);
     let widest = file::widest_line(v);
     let longest = file::longest_record(v);
+    let page = tables::wide(h.page);
     let width = tables::wide(h.width);
     let length = tables::wide(h.reclen);
     file::rule_of(
@@ -23,7 +24,7 @@ pub fn rule_d2(h: Head) -> Rule
             & (h.fd <= h.ld)
             & (h.ld <= h.ft)
             & (h.ft <= h.page)
-            & (h.page <= 999)
+            & (page <= file::PAGE_LINES_MAX)
             & (1 <= width)
             & (width <= widest)
             & (1 <= length)

@@ -4,9 +4,9 @@ ghost use Prim.Native.Nat.{_+_, _*_, _<_, _≤_};
 ghost use lib.Dec.{leb};
 ghost use lib.ListN.{length};
 ghost use Rattle.counts.specs.Below.{allBelow};
-ghost use Rattle.file.specs.Version.{known, sections, trailerSize, entrySize, entryLimit, widest, longest};
+ghost use Rattle.file.specs.Version.{known, sections, settings, trailerSize, entrySize, entryLimit, widest, longest};
 ghost use Rattle.file.specs.Number.{num, Reads};
-ghost use Rattle.file.specs.Trailer.{version as versionSpec, HasTrailer, trailer, start, count, setting};
+ghost use Rattle.file.specs.Trailer.{version, HasTrailer, trailer, start, count, setting};
 ghost use Rattle.file.specs.Sections.{sectionEnd, nextStart, sectionOk, ruleD1};
 ghost use Rattle.file.specs.Rule.{ruled};
 
@@ -15,14 +15,30 @@ pub const LINE_MAX: usize = 132;
 
 pub const RECORD_MAX: usize = 256;
 
-// The most controls, groups, counters and details.
+// The most entries of each section.
+pub const FIELDS_MAX: usize = 32;
+
 pub const CONTROLS_MAX: usize = 8;
 
 pub const GROUPS_MAX: usize = 32;
 
+pub const LINES_MAX: usize = 128;
+
+pub const ITEMS_MAX: usize = 512;
+
 pub const COUNTERS_MAX: usize = 32;
 
+pub const ADDENDS_MAX: usize = 128;
+
+pub const LITERALS_MAX: usize = 4096;
+
+// The most details, and the most lines of a group.
 pub const DETAILS_MAX: usize = 8;
+
+pub const GROUP_LINES_MAX: usize = 16;
+
+// The most lines of a page, and so the greatest integer of a line and of a next group.
+pub const PAGE_LINES_MAX: usize = 999;
 
 // The answer of one rule.
 pub enum Rule {
@@ -51,6 +67,13 @@ pub fn num_at(d: &[u8], at: usize) -> usize
     joined(d[at], d[at + 1]) as usize
 }
 
+// Sections, and the settings behind their starts and counts; of these R, the record length, is the last but the version.
+const SECTIONS: usize = 8;
+
+const SETTINGS: usize = 8;
+
+pub const RECORD_LENGTH: usize = 6;
+
 // What a version sets. There is one so far, so only the first of these looks at it.
 fn known_version(v: usize) -> bool
     ensures { λ r. ⌜ r ≡ known v ⌝ }
@@ -61,26 +84,29 @@ fn known_version(v: usize) -> bool
 fn section_count(v: usize) -> usize
     ensures { λ r. ⌜ r ≡ sections v ⌝ }
 {
-    8
+    SECTIONS
 }
 
 fn trailer_size(v: usize) -> usize
     ensures { λ r. ⌜ r ≡ trailerSize v ⌝ }
 {
-    4 * section_count(v) + 16
+    4 * section_count(v) + 2 * SETTINGS
 }
 
-const SIZES: [usize; 8] = [6, 2, 12, 8, 12, 8, 6, 1];
+// Bytes of a field: the fields are the first section.
+pub const FIELD_SIZE: usize = 6;
 
-const LIMITS: [usize; 8] = [
-    32,
+const SIZES: [usize; SECTIONS] = [FIELD_SIZE, 2, 12, 8, 12, 8, 6, 1];
+
+const LIMITS: [usize; SECTIONS] = [
+    FIELDS_MAX,
     CONTROLS_MAX,
     GROUPS_MAX,
-    128,
-    512,
+    LINES_MAX,
+    ITEMS_MAX,
     COUNTERS_MAX,
-    128,
-    4096,
+    ADDENDS_MAX,
+    LITERALS_MAX,
 ];
 
 // Bytes of an entry, and the most entries, of section `k`.
@@ -111,9 +137,9 @@ pub fn longest_record(v: usize) -> usize
 }
 
 // The version, the last number of the file.
-fn version(d: &[u8]) -> usize
+pub fn version_of(d: &[u8]) -> usize
     requires { ⌜ 2 ≤ length (now d) ⌝ }
-    ensures { λ r. ⌜ Reads (versionSpec (now (d .entry))) r ⌝ }
+    ensures { λ r. ⌜ Reads (version (now (d .entry))) r ⌝ }
 {
     num_at(d, d.len() - 2)
 }
@@ -123,19 +149,19 @@ fn trailer_at(d: &[u8]) -> usize
     requires { ⌜ HasTrailer (now d) ⌝ }
     ensures { λ r. ⌜ r ≡ trailer (now (d .entry)) ⌝ }
 {
-    d.len() - trailer_size(version(d))
+    d.len() - trailer_size(version_of(d))
 }
 
 // Start and entry count of section `k`.
 pub fn start_of(d: &[u8], k: usize) -> usize
-    requires { ⌜ HasTrailer (now d) × (k < sections (versionSpec (now d))) ⌝ }
+    requires { ⌜ HasTrailer (now d) × (k < sections (version (now d))) ⌝ }
     ensures { λ r. ⌜ Reads (start (now (d .entry)) k) r ⌝ }
 {
     num_at(d, trailer_at(d) + 4 * k)
 }
 
 pub fn count_of(d: &[u8], k: usize) -> usize
-    requires { ⌜ HasTrailer (now d) × (k < sections (versionSpec (now d))) ⌝ }
+    requires { ⌜ HasTrailer (now d) × (k < sections (version (now d))) ⌝ }
     ensures { λ r. ⌜ Reads (count (now (d .entry)) k) r ⌝ }
 {
     num_at(d, trailer_at(d) + 4 * k + 2)
@@ -143,27 +169,27 @@ pub fn count_of(d: &[u8], k: usize) -> usize
 
 // P, H, FD, LD, FT, W, R, version.
 pub fn setting_of(d: &[u8], j: usize) -> usize
-    requires { ⌜ HasTrailer (now d) × (j < 8) ⌝ }
+    requires { ⌜ HasTrailer (now d) × (j < settings) ⌝ }
     ensures { λ r. ⌜ Reads (setting (now (d .entry)) j) r ⌝ }
 {
-    let all = section_count(version(d));
+    let all = section_count(version_of(d));
     num_at(d, trailer_at(d) + 4 * all + 2 * j)
 }
 
 // The byte past section `k`.
 fn end_of(d: &[u8], k: usize) -> usize
-    requires { ⌜ HasTrailer (now d) × (k < sections (versionSpec (now d))) ⌝ }
+    requires { ⌜ HasTrailer (now d) × (k < sections (version (now d))) ⌝ }
     ensures { λ r. ⌜ r ≡ sectionEnd (now (d .entry)) k ⌝ }
 {
-    start_of(d, k) + count_of(d, k) * entry_size(version(d), k)
+    start_of(d, k) + count_of(d, k) * entry_size(version_of(d), k)
 }
 
 // Where section `k` must end: the start of the next one, or the trailer.
 fn next_start(d: &[u8], k: usize) -> usize
-    requires { ⌜ HasTrailer (now d) × (k < sections (versionSpec (now d))) ⌝ }
+    requires { ⌜ HasTrailer (now d) × (k < sections (version (now d))) ⌝ }
     ensures { λ r. ⌜ r ≡ nextStart (now (d .entry)) k ⌝ }
 {
-    let last = section_count(version(d)) - 1;
+    let last = section_count(version_of(d)) - 1;
     if k < last {
         start_of(d, k + 1)
     } else {
@@ -172,17 +198,17 @@ fn next_start(d: &[u8], k: usize) -> usize
 }
 
 fn section_ok(d: &[u8], k: usize) -> bool
-    requires { ⌜ HasTrailer (now d) × (k < sections (versionSpec (now d))) ⌝ }
+    requires { ⌜ HasTrailer (now d) × (k < sections (version (now d))) ⌝ }
     ensures { λ r. ⌜ r ≡ sectionOk (now (d .entry)) k ⌝ }
 {
-    (count_of(d, k) <= entry_limit(version(d), k)) & (end_of(d, k) == next_start(d, k))
+    (count_of(d, k) <= entry_limit(version_of(d), k)) & (end_of(d, k) == next_start(d, k))
 }
 
 fn sections_ok(d: &[u8]) -> bool
     requires { ⌜ HasTrailer (now d) ⌝ }
-    ensures { λ r. ⌜ r ≡ allBelow (sections (versionSpec (now (d .entry)))) (sectionOk (now (d .entry))) ⌝ }
+    ensures { λ r. ⌜ r ≡ allBelow (sections (version (now (d .entry)))) (sectionOk (now (d .entry))) ⌝ }
 {
-    let n = section_count(version(d));
+    let n = section_count(version_of(d));
     let mut ok = true;
     let mut k = 0;
     while k < n {
@@ -194,22 +220,22 @@ fn sections_ok(d: &[u8]) -> bool
 }
 
 // "at least 48 bytes": no version has a shorter trailer, and below that none is read.
-const TRAILER_LEAST: usize = 48;
+pub const TRAILER_LEAST: usize = 4 * SECTIONS + 2 * SETTINGS;
 
 fn has_trailer(d: &[u8]) -> bool
-    ensures { λ r. ⌜ r ≡ leb (trailerSize (versionSpec (now (d .entry)))) (length (now (d .entry))) ⌝ }
+    ensures { λ r. ⌜ r ≡ leb (trailerSize (version (now (d .entry)))) (length (now (d .entry))) ⌝ }
 {
     if d.len() < TRAILER_LEAST {
         return false;
     }
-    trailer_size(version(d)) <= d.len()
+    trailer_size(version_of(d)) <= d.len()
 }
 
 pub fn rule_d1(d: &[u8]) -> Rule
     ensures { λ r. ⌜ r ≡ ruled (ruleD1 (now (d .entry))) ⌝ }
 {
     if has_trailer(d) {
-        return rule_of(known_version(version(d)) & (start_of(d, 0) == 0) & sections_ok(d));
+        return rule_of(known_version(version_of(d)) & (start_of(d, 0) == 0) & sections_ok(d));
     }
     rule_of(false)
 }

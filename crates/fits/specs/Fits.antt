@@ -4,6 +4,7 @@ use mathlib.Core.Bool.{Bool, _&&_, _||_, not, cond}
 use mathlib.Core.List.{List}
 use lib.Dec.{leb, ltb, eqb}
 use Rattle.counts.specs.Below.{allBelow}
+use Rattle.file.specs.Limits.{groupLinesMax}
 use Rattle.tables.specs.declared.Head.{Head}
 use Rattle.tables.specs.Kinds.{typeRH, typePH, typeDE, typeCF, typePF, lineNextPage, lineRelative}
 use Rattle.tables.specs.Section.{lineSection}
@@ -43,7 +44,7 @@ groupFits h t i =
 -- "at most 16 lines a group"; a group without lines has no more to keep
 unfoldable pub linesOk : Head → List ℕ → ℕ → Bool
 linesOk h t i =
-    eqb (lineCount h t i) 0 || leb (lineCount h t i) 16 && firstOk h t i && allBelow (later h t i) (laterOk h t i) && groupFits h t i
+    eqb (lineCount h t i) 0 || leb (lineCount h t i) groupLinesMax && firstOk h t i && allBelow (later h t i) (laterOk h t i) && groupFits h t i
 
 -- ".. items shared out in line order"
 unfoldable pub ruleD6 : Head → List ℕ → Bool

@@ -143,7 +143,10 @@ fn lines_ok(t: &[u16], h: Head, i: usize) -> bool
     if n == 0 {
         return true;
     }
-    (n <= 16) & lines::first_ok(t, h, i) & lines::later_ok(t, h, i) & fits_page(t, h, i)
+    (n <= file::GROUP_LINES_MAX)
+        & lines::first_ok(t, h, i)
+        & lines::later_ok(t, h, i)
+        & fits_page(t, h, i)
 }
 
 fn all_lines_ok(t: &[u16], h: Head) -> bool

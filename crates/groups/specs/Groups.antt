@@ -4,7 +4,7 @@ use mathlib.Core.Bool.{Bool, _&&_, _||_, not}
 use mathlib.Core.List.{List}
 use lib.Dec.{leb, ltb, eqb}
 use Rattle.counts.specs.Below.{allBelow}
-use Rattle.file.specs.Limits.{detailsMax}
+use Rattle.file.specs.Limits.{detailsMax, pageLinesMax}
 use Rattle.tables.specs.declared.Head.{Head}
 use Rattle.tables.specs.Kinds.{typeCH, typeDE, typeCF, typeRF, nextNone, nextAbsolute, nextRelative, nextPage}
 use Rattle.tables.specs.Section.{groupSection}
@@ -26,7 +26,7 @@ nextOk h t i =
     eqb (nextKind h t i) nextNone && eqb (nextBy h t i) 0
     || leb typeCH (typeOf h t i) && leb (typeOf h t i) typeCF
     && (eqb (nextKind h t i) nextAbsolute && leb (h .fd) (nextBy h t i) && leb (nextBy h t i) (h .ft)
-    || eqb (nextKind h t i) nextRelative && leb 1 (nextBy h t i) && leb (nextBy h t i) 999
+    || eqb (nextKind h t i) nextRelative && leb 1 (nextBy h t i) && leb (nextBy h t i) pageLinesMax
     || eqb (nextKind h t i) nextPage && eqb (nextBy h t i) 0)
 
 -- "An unlisted kind or flag breaks its section's rule": types 0 to 6, next-group kinds 0 to 3

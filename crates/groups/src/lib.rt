@@ -27,7 +27,7 @@ fn numbers_ok(t: &[u16], h: Head, i: usize) -> bool
             | (tables::CH <= kind)
                 & (kind <= tables::CF)
                 & ((next == tables::NEXT_ABSOLUTE) & (fd <= by) & (by <= ft)
-                    | (next == tables::NEXT_RELATIVE) & (1 <= by) & (by <= 999)
+                    | (next == tables::NEXT_RELATIVE) & (1 <= by) & (by <= file::PAGE_LINES_MAX)
                     | (next == tables::NEXT_PAGE) & (by == 0)))
 }
 

@@ -4,6 +4,7 @@ use mathlib.Core.Bool.{Bool, _&&_, _||_, not}
 use mathlib.Core.List.{List}
 use lib.Dec.{leb, eqb}
 use Rattle.counts.specs.Below.{sumBelow}
+use Rattle.file.specs.Limits.{pageLinesMax}
 use Rattle.tables.specs.declared.Head.{Head}
 use Rattle.tables.specs.Kinds.{typeCH, typePF, lineAbsolute, lineNextPage, lineRelative}
 use Rattle.tables.specs.Table.{typeOf, firstLine, lineCount, lineKind, lineInt}
@@ -49,4 +50,4 @@ kindOk h t i =
 
 -- "first line integer 1 to 999"
 unfoldable pub firstOk : Head → List ℕ → ℕ → Bool
-firstOk h t i = kindOk h t i && leb 1 (firstInt h t i) && leb (firstInt h t i) 999
+firstOk h t i = kindOk h t i && leb 1 (firstInt h t i) && leb (firstInt h t i) pageLinesMax

@@ -80,5 +80,5 @@ pub fn first_ok(t: &[u16], h: Head, i: usize) -> bool
         | (kind == tables::LINE_RELATIVE) & (group != tables::PF)
         | (kind == tables::LINE_NEXT_PAGE) & (tables::CH <= group) & (group != tables::PF))
         & (1 <= n)
-        & (n <= 999)
+        & (n <= file::PAGE_LINES_MAX)
 }

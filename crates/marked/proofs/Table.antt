@@ -1,12 +1,12 @@
 -- M1 to M12, and that CHECK accepts the description that they are about, by computation.
 -- Assumes nothing.
 use mathlib.Core.Path.{_≡_, refl, ap, _∙_}
-use Rattle.counts.specs.Below.{allBelow, sumBelow, firstBelow, listBelow}
-use Rattle.file.specs.Number.{num}
+use Rattle.counts.specs.Below.{allBelow, sumBelow, firstBelow, listBelow, joinBelow}
+use Rattle.file.specs.Number.{num, bytesOfNumbers}
 use Rattle.file.specs.Rule.{ruled}
 use Rattle.file.specs.Sections.{ruleD1}
-use Rattle.tables.specs.Head.{headOf}
-use Rattle.tables.specs.Table.{table, literals}
+use Rattle.unpacked.specs.Head.{headOf}
+use Rattle.unpacked.specs.Table.{table, literals}
 use Rattle.lookup.specs.Find.{theGroup, details, theDetail}
 use Rattle.lookup.specs.Shared.{sharedOut}
 use Rattle.fields.specs.Page.{ruleD2}
@@ -29,16 +29,16 @@ use Rattle.marked.specs.Described.{sections, description}
 use Rattle.marked.specs.Marked.{cases, given, wanted}
 
 pub accepts : checked description ≡ Accepted
-unfolding description allBelow sumBelow firstBelow listBelow num ruled ruleD1 table literals theGroup details sharedOut ruleD2 fieldOk ruleD3 differs controlOk ruleD4 numbersOk alone ruleD5 span stepOk firstOk bodyFits groupFits linesOk ruleD6 lineItemsOk groupItemsOk ruleD7 ruleD8 from8 from7 from6 from5 from4 from3 judged checked
+unfolding description bytesOfNumbers allBelow sumBelow firstBelow listBelow joinBelow num ruled ruleD1 table literals theGroup details sharedOut ruleD2 fieldOk ruleD3 differs controlOk ruleD4 numbersOk alone ruleD5 span stepOk firstOk bodyFits groupFits linesOk ruleD6 lineItemsOk groupItemsOk ruleD7 ruleD8 from8 from7 from6 from5 from4 from3 judged checked
 accepts = refl
 
 -- the table read from the bytes once, and not anew for each number of it
 sections-read : table description ≡ sections
-unfolding description sumBelow listBelow num table
+unfolding description bytesOfNumbers sumBelow listBelow joinBelow num table
 sections-read = refl
 
 cases-wanted : cases (headOf description) sections ≡ wanted
-unfolding cases wanted description num sumBelow firstBelow theGroup theDetail span bodyOf frameOf lands followed dueOf pageChange pageChanges placedLines placed placeGroup placeAll numberOf valueFrom controlDiffers breakLevel digits placesIn places fraction plain signedText alignRight numberField
+unfolding cases wanted description bytesOfNumbers num sumBelow firstBelow theGroup theDetail span bodyOf frameOf lands followed dueOf pageChange pageChanges placedLines placed placeGroup placeAll numberOf valueFrom controlDiffers breakLevel digits placesIn places fraction plain signedText alignRight numberField
 cases-wanted = refl
 
 pub marked : given ≡ wanted

@@ -1,11 +1,7 @@
 -- The description that M1 to M10 are about, as bytes. "Take P 10, H 1, FD 3, LD 6, FT 8."
-use Prim.Native.Nat.{ℕ, _/_, _%_}
+use Prim.Native.Nat.{ℕ}
 use mathlib.Core.List.{List, [], _∷_, _++_}
-
--- "Numbers are 2 bytes, low byte first"
-abbrev pub numbers : List ℕ → List ℕ
-numbers [] = []
-numbers (x ∷ xs) = x % 256 ∷ x / 256 ∷ numbers xs
+use Rattle.file.specs.Number.{bytesOfNumbers}
 
 -- a number of four bytes; FINAL and that field are the controls
 abbrev pub fields : List ℕ
@@ -38,4 +34,4 @@ abbrev pub sections : List ℕ
 sections = fields ++ (controls ++ (groups ++ lines))
 
 unfoldable pub description : List ℕ
-description = numbers (sections ++ trailer)
+description = bytesOfNumbers (sections ++ trailer)

@@ -3,6 +3,7 @@ use Prim.Native.Nat.{ℕ, _+_, _≤_, _<_}
 use mathlib.Core.Path.{_≡_}
 use mathlib.Core.Bool.{true, false}
 use mathlib.Core.List.{List}
+use Rattle.file.specs.Limits.{pageLinesMax}
 use Rattle.tables.specs.declared.Head.{Head}
 use Rattle.tables.specs.Table.{typeOf}
 use Rattle.lines.specs.Lines.{span, later, step}
@@ -18,7 +19,7 @@ pub record PageFits (h : Head) (t : List ℕ) : Type 0 where
   pub fdLd : h .fd ≤ h .ld
   pub ldFt : h .ld ≤ h .ft
   pub ftPage : h .ft ≤ h .page
-  pub page999 : h .page ≤ 999
+  pub page999 : h .page ≤ pageLinesMax
   -- D6: headings, on page 1 and on later pages; footings
   pub rhStands : present h t (reportHeading h t) ≡ true → (h .top ≤ rhAt h t) × (rhAt h t + span h t (reportHeading h t) < h .fd)
   pub phStands : present h t (pageHeading h t) ≡ true → (headEnd h t < phAt h t) × (phAt h t + span h t (pageHeading h t) < h .fd)

@@ -4,10 +4,11 @@ use Prim.Native.Nat.{ℕ}
 use mathlib.Core.Path.{_≡_, refl, sym, _∙_}
 use mathlib.Core.Bool.{true}
 use mathlib.Core.List.{List}
+use Rattle.file.specs.Trailer.{version}
 use Rattle.file.specs.Sections.{ruleD1}
 use Rattle.tables.specs.declared.Head.{Head}
-use Rattle.tables.specs.Head.{headOf}
-use Rattle.tables.specs.Table.{table, literals}
+use Rattle.unpacked.specs.Head.{headOf}
+use Rattle.unpacked.specs.Table.{table, literals}
 use Rattle.description.specs.declared.Checked.{Checked}
 use Rattle.description.specs.declared.Checked.the-variants.{Accepted, Broken}
 use Rattle.description.specs.Check.{judged, checked}
@@ -22,14 +23,14 @@ use Rattle.answer.specs.Result.{refusal, Returns}
 use Rattle.calls.specs.Calls.{callOn}
 use Rattle.report.specs.Calls.{call}
 
-module _ (d : List ℕ) (h : Head) (t lits : List ℕ) (eh : h ≡ headOf d) (et : t ≡ table d) (el : lits ≡ literals d) (o : ruleD1 d ≡ true) where
-  pub judged-so : (x : Checked) → x ≡ judged h t lits → checked d ≡ x
-  judged-so x e = d1-passed d o ∙ sym (rw (eh, et, el) at e)
+module _ (d : List ℕ) (v : ℕ) (h : Head) (t lits : List ℕ) (ev : v ≡ version d) (eh : h ≡ headOf d) (et : t ≡ table d) (el : lits ≡ literals d) (o : ruleD1 d ≡ true) where
+  pub judged-so : (x : Checked) → x ≡ judged v h t lits → checked d ≡ x
+  judged-so x e = d1-passed d o ∙ sym (rw (ev, eh, et, el) at e)
 
-  pub accepted-so : Accepted ≡ judged h t lits → facts.Accepted h t lits
+  pub accepted-so : Accepted ≡ judged v h t lits → facts.Accepted h t lits
   accepted-so e = rw (eh, et, el) (accepted d (judged-so Accepted e))
 
-  pub call-so : (s : State) (r : Answer) (e : Accepted ≡ judged h t lits) (a : Asked) (row out new : List ℕ) → Returns (callOn h t lits s a row out) r new → Returns (call d s a row out) r new
+  pub call-so : (s : State) (r : Answer) (e : Accepted ≡ judged v h t lits) (a : Asked) (row out new : List ℕ) → Returns (callOn h t lits s a row out) r new → Returns (call d s a row out) r new
   unfolding call
   call-so s r e a row out new x = rw (judged-so Accepted e) (rw (eh, et, el) at x)
 

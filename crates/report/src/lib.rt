@@ -1,10 +1,7 @@
 // The report and its calls, under any description: INITIATE, GENERATE, TERMINATE.
 ghost use mathlib.Core.Path.{_≡_};
-ghost use mathlib.Core.Bool.{true};
 ghost use mathlib.Core.List.{[]};
-ghost use lib.ListN.{length};
-ghost use Rattle.file.specs.Sections.{ruleD1};
-ghost use Rattle.tables.specs.Table.{numbers};
+ghost use Rattle.description.specs.Facts.{TableRoom};
 ghost use Rattle.answer.specs.Result.{Returns};
 ghost use Rattle.report.specs.Calls.{call as callSpec, initiate as initiateSpec, generate as generateSpec, terminate as terminateSpec};
 use answer::Answer;
@@ -12,6 +9,7 @@ use calls::Asked;
 use description::Checked;
 use file::Rule;
 use state::State;
+use tables::Head;
 use verdict::Verdict;
 
 // One report: its state, which every call takes by value and gives back in its answer.
@@ -20,35 +18,45 @@ pub struct Report {
 }
 
 // A call under a description that keeps D1, in a table that has just room for its numbers.
-fn call_in(s: State, d: &[u8], t: &mut [u16], asked: Asked, rec: &[u8], out: &mut [u8]) -> Answer
-    requires { ⌜ (ruleD1 (now d) ≡ true) × (length (now t) ≡ numbers (now d)) ⌝ }
+fn call_in(
+    s: State,
+    d: &[u8],
+    h: Head,
+    t: &mut [u16],
+    asked: Asked,
+    rec: &[u8],
+    out: &mut [u8],
+) -> Answer
+    requires { ⌜ TableRoom (now d) h (now t) ⌝ }
     ensures { λ r. ⌜ Returns (callSpec (now (d .entry)) s asked (now (rec .entry)) (now (out .entry))) r (now (out .exit)) ⌝ }
 {
-    tables::unpack(d, t);
-    let h = tables::head_of(d);
+    unpacked::unpack(d, t);
     let lits = description::literals_of(d);
-    let judged = description::judge(t, h, lits);
+    let judged = description::judge(t, h, file::version_of(d), lits);
     match judged {
         Checked::Broken(rule) => answer::refusal(s, Verdict::Description(rule)),
         Checked::Accepted => calls::call_on(t, h, lits, s, asked, rec, out),
     }
 }
 
-// A call under a description. It lends the front of 512 numbers where these are enough for the table, and else of 4392, the
-// most: the fewer, the sooner they are set up.
+// Numbers of a small table, which is sooner set up than one of the most.
+const SMALL: usize = 512;
+
+// A call under a description, in the front of a small table where that is enough for its numbers.
 pub fn call(s: State, d: &[u8], asked: Asked, rec: &[u8], out: &mut [u8]) -> Answer
     ensures { λ r. ⌜ Returns (callSpec (now (d .entry)) s asked (now (rec .entry)) (now (out .entry))) r (now (out .exit)) ⌝ }
 {
     let Rule::Passed = file::rule_d1(d) else {
         return answer::refusal(s, Verdict::Description(1));
     };
-    let n = tables::numbers_of(d);
-    if n <= 512 {
-        let mut t = [tables::UNSET; 512];
-        return call_in(s, d, &mut t[..n], asked, rec, out);
+    let h = unpacked::head_of(d);
+    let n = unpacked::numbers_of(h);
+    if n <= SMALL {
+        let mut t = [unpacked::UNSET; SMALL];
+        return call_in(s, d, h, &mut t[..n], asked, rec, out);
     }
-    let mut t = [tables::UNSET; tables::NUMBERS_MAX];
-    call_in(s, d, &mut t[..n], asked, rec, out)
+    let mut t = [unpacked::UNSET; unpacked::NUMBERS_MAX];
+    call_in(s, d, h, &mut t[..n], asked, rec, out)
 }
 
 impl Report {

@@ -296,7 +296,7 @@ fn record_length(d: &[u8]) -> usize
     let Rule::Passed = file::rule_d1(d) else {
         return 1;
     };
-    let h = tables::head_of(d);
+    let h = unpacked::head_of(d);
     let n = tables::wide(h.reclen);
     if n == 0 {
         return 1;

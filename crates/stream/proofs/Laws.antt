@@ -11,8 +11,8 @@ use lib.ListN.{length, take, drop, take-append-drop, length-drop, drop-of-length
 use lib.Seq.{take-all}
 use borrow.Rule.Slice.PartMut.{putMid}
 use Rattle.tables.specs.declared.Head.{Head}
-use Rattle.tables.specs.Head.{headOf}
-use Rattle.tables.specs.Table.{table, literals}
+use Rattle.unpacked.specs.Head.{headOf}
+use Rattle.unpacked.specs.Table.{table, literals}
 use Rattle.layout.specs.declared.Pos.{Pos}
 use Rattle.description.specs.declared.Checked.{Checked}
 use Rattle.description.specs.declared.Checked.the-variants as checked

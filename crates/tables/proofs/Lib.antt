@@ -1,4 +1,2 @@
 -- The laws that belong to no one function.
 pub mod Fill
-pub mod Heads
-pub mod Says

@@ -2,11 +2,9 @@
 use Prim.Native.Nat.{ℕ, _+_, _*_}
 use mathlib.Core.List.{List, [], _∷_}
 use lib.ListN.{getD}
-use Rattle.counts.specs.Below.{sumBelow}
-use Rattle.file.specs.Trailer.{count}
 use Rattle.tables.specs.declared.Head.{Head}
 
--- "fields, controls, groups, lines, items, counters, addends": sections 0 to 6, in the file's order (section 7 is the literal bytes)
+-- "fields, controls, groups, lines, items, counters, addends, literal bytes": the sections in the file's order
 abbrev pub fieldSection : ℕ
 fieldSection = 0
 
@@ -28,13 +26,16 @@ counterSection = 5
 abbrev pub addendSection : ℕ
 addendSection = 6
 
+abbrev pub literalSection : ℕ
+literalSection = 7
+
+-- the table has all of them but the literal bytes
+abbrev pub tableSections : ℕ
+tableSections = 7
+
 -- numbers of an entry of section k in the table
 abbrev pub words : ℕ → ℕ
 words k = getD (3 ∷ 1 ∷ 6 ∷ 4 ∷ 6 ∷ 4 ∷ 3 ∷ []) k 0
-
--- where section k starts in the table of a description: behind the entries of the sections before it
-abbrev pub tableStart : List ℕ → ℕ → ℕ
-tableStart d k = sumBelow k (λ i. words i * count d i)
 
 -- start and entry count of section k, as a head has them
 abbrev pub startOf : Head → ℕ → ℕ

@@ -1,34 +1,10 @@
--- The table of a description: the numbers of every section but the literals, and what its entries are.
-use Prim.Native.Nat.{ℕ, _+_, _*_, _≤_}
+-- What the entries of the table are: the numbers of every section but the literals, by name.
+use Prim.Native.Nat.{ℕ, _+_, _*_}
 use mathlib.Core.List.{List}
-use lib.ListN.{length, getD, take, drop}
-use Rattle.counts.specs.Below.{listBelow}
-use Rattle.file.specs.Number.{num}
-use Rattle.file.specs.Trailer.{start, count}
+use lib.ListN.{getD}
 use Rattle.tables.specs.declared.Head.{Head}
 use Rattle.tables.specs.declared.Item.{Item}
-use Rattle.tables.specs.Section.{fieldSection, controlSection, groupSection, lineSection, itemSection, counterSection, addendSection, words, tableStart, entryAt, entry}
-
--- numbers of the table: the entries of sections 0 to 6
-abbrev pub numbers : List ℕ → ℕ
-numbers d = tableStart d 7
-
--- number i of the table is the two bytes at 2i, where a version has whole entries only in these sections, as version 1 has
-unfoldable pub table : List ℕ → List ℕ
-table d = listBelow (numbers d) (λ i. num d (2 * i))
-
--- "at most 32 fields, 8 controls, 32 groups, 128 lines, 512 items, 32 counters, 128 addends" are so many numbers
-abbrev pub numbersMax : ℕ
-numbersMax = 4392
-
--- what D1 gives for reading them: they lie inside the file, and are no more than that
-pub record NumbersIn (d : List ℕ) : Type 0 where
-  pub inside : 2 * numbers d ≤ length d
-  pub few : numbers d ≤ numbersMax
-
--- the literal bytes
-unfoldable pub literals : List ℕ → List ℕ
-literals d = take (count d 7) (drop (start d 7) d)
+use Rattle.tables.specs.Section.{fieldSection, controlSection, groupSection, lineSection, itemSection, counterSection, addendSection, words, entryAt, entry}
 
 -- "Field: kind (0 text, 1 number), offset, width." The fields start the table, so no head is asked.
 abbrev pub field : List ℕ → ℕ → ℕ → ℕ

@@ -1,16 +1,12 @@
-// The tables of a description: one list of the numbers of every section but the literals, and a head with starts, counts and page.
+// The tables of a description, a head and a list of numbers: their kinds, and what each number of each entry is.
 ghost use mathlib.Core.Path.{_≡_};
-ghost use mathlib.Core.Bool.{true};
 ghost use Prim.Native.Nat.{_+_, _*_, _≤_, _<_};
 ghost use lib.ListN.{length, getD};
 ghost use Rattle.file.specs.Number.{Reads};
-ghost use Rattle.file.specs.Trailer.{HasTrailer, count, setting};
-ghost use Rattle.file.specs.Sections.{ruleD1};
-ghost use Rattle.tables.specs.Section.{words, tableStart, startOf, countOf, entry};
-ghost use Rattle.tables.specs.Head.{headOf};
-ghost use Rattle.tables.specs.Table.{NumbersIn, numbers, table, field, control, group, line, item, itemAt, itemOf, counter, addend};
+ghost use Rattle.tables.specs.Section.{tableSections, words, startOf, countOf, entry};
+ghost use Rattle.tables.specs.Table.{field, control, group, line, item, itemAt, itemOf, counter, addend};
 
-// The sections of the table, in the file's order; the literal bytes are section 7 of the file.
+// The sections in the file's order; all but the last are in the table.
 pub const FIELDS: usize = 0;
 
 pub const CONTROLS: usize = 1;
@@ -25,11 +21,12 @@ pub const COUNTERS: usize = 5;
 
 pub const ADDENDS: usize = 6;
 
-// Numbers of an entry of each section in the table.
-const WORDS: [usize; 7] = [3, 1, 6, 4, 6, 4, 3];
+pub const LITERALS: usize = 7;
 
-// The most numbers of a table.
-pub const NUMBERS_MAX: usize = 4392;
+// Sections of the table, and the numbers of an entry of each.
+const SECTIONS: usize = 7;
+
+const WORDS: [usize; SECTIONS] = [3, 1, 6, 4, 6, 4, 3];
 
 // Kinds of fields, and FINAL.
 pub const FIELD_TEXT: usize = 0;
@@ -85,8 +82,7 @@ pub const ADDEND_FIELD: usize = 0;
 
 pub const ADDEND_COUNTER: usize = 1;
 
-// Section starts (in numbers of the table; fields start at 0), entry counts, and P, H, FD, LD, FT, W, R and the version,
-// which only the limits of D2 go by.
+// Section starts (in numbers of the table; fields start at 0), entry counts, and P, H, FD, LD, FT, W, R.
 pub struct Head {
     pub cstart: u16,
     pub gstart: u16,
@@ -109,7 +105,6 @@ pub struct Head {
     pub ft: u16,
     pub width: u16,
     pub reclen: u16,
-    pub version: u16,
 }
 
 // An item, whole.
@@ -122,9 +117,6 @@ pub struct Item {
     pub flag: u16,
 }
 
-// What a table holds before its numbers are put in. Two bytes that differ: of equal ones LLVM makes a call of memset.
-pub const UNSET: u16 = 1;
-
 pub fn wide(x: u16) -> usize
     ensures { λ r. ⌜ Reads x r ⌝ }
 {
@@ -133,91 +125,10 @@ pub fn wide(x: u16) -> usize
 
 // Numbers of an entry of section `k`.
 pub fn words_of(k: usize) -> usize
-    requires { ⌜ k < 7 ⌝ }
+    requires { ⌜ k < tableSections ⌝ }
     ensures { λ r. ⌜ (r ≡ words k) × (r < 8) ⌝ }
 {
     WORDS[k]
-}
-
-// Where the section behind section `k` starts in the table, `k` itself starting at `at`.
-fn start_behind(d: &[u8], k: usize, at: u16) -> u16
-    requires { ⌜ (ruleD1 (now d) ≡ true) × ((k < 7) × (at ≡ tableStart (now d) k)) ⌝ }
-    ensures { λ r. ⌜ r ≡ tableStart (now (d .entry)) (k + 1) ⌝ }
-{
-    (wide(at) + words_of(k) * file::count_of(d, k)) as u16
-}
-
-fn count16(d: &[u8], k: usize) -> u16
-    requires { ⌜ HasTrailer (now d) × (k < 8) ⌝ }
-    ensures { λ r. ⌜ r ≡ count (now (d .entry)) k ⌝ }
-{
-    file::count_of(d, k) as u16
-}
-
-fn setting16(d: &[u8], j: usize) -> u16
-    requires { ⌜ HasTrailer (now d) × (j < 8) ⌝ }
-    ensures { λ r. ⌜ r ≡ setting (now (d .entry)) j ⌝ }
-{
-    file::setting_of(d, j) as u16
-}
-
-// The head of a description that passes D1.
-pub fn head_of(d: &[u8]) -> Head
-    requires { ⌜ ruleD1 (now d) ≡ true ⌝ }
-    ensures { λ r. ⌜ r ≡ headOf (now (d .entry)) ⌝ }
-{
-    let controls_at = start_behind(d, FIELDS, 0);
-    let groups_at = start_behind(d, CONTROLS, controls_at);
-    let lines_at = start_behind(d, GROUPS, groups_at);
-    let items_at = start_behind(d, LINES, lines_at);
-    let counters_at = start_behind(d, ITEMS, items_at);
-    let addends_at = start_behind(d, COUNTERS, counters_at);
-    Head {
-        cstart: controls_at,
-        gstart: groups_at,
-        lstart: lines_at,
-        istart: items_at,
-        kstart: counters_at,
-        astart: addends_at,
-        fields: count16(d, FIELDS),
-        controls: count16(d, CONTROLS),
-        groups: count16(d, GROUPS),
-        lines: count16(d, LINES),
-        items: count16(d, ITEMS),
-        counters: count16(d, COUNTERS),
-        addends: count16(d, ADDENDS),
-        literals: count16(d, 7),
-        page: setting16(d, 0),
-        top: setting16(d, 1),
-        fd: setting16(d, 2),
-        ld: setting16(d, 3),
-        ft: setting16(d, 4),
-        width: setting16(d, 5),
-        reclen: setting16(d, 6),
-        version: setting16(d, 7),
-    }
-}
-
-// How many numbers the table of a description that passes D1 has: all that stand before the literals.
-pub fn numbers_of(d: &[u8]) -> usize
-    requires { ⌜ ruleD1 (now d) ≡ true ⌝ }
-    ensures { λ r. ⌜ r ≡ numbers (now (d .entry)) ⌝ }
-{
-    file::start_of(d, 7) / 2
-}
-
-// The numbers before the literals, put into a table that has just room for them. The bounds are known here, so that this
-// becomes a copy of whole blocks.
-pub fn unpack(d: &[u8], t: &mut [u16])
-    requires { ⌜ NumbersIn (now d) × (length (now t) ≡ numbers (now d)) ⌝ }
-    ensures { λ _. ⌜ now (t .exit) ≡ table (now (d .entry)) ⌝ }
-{
-    let n = t.len();
-    let mut i = 0;
-    while i < n {
-        t[i] = file::joined(d[2 * i], d[2 * i + 1]);
-        i += 1;
-    }
 }
 
 // A number of the table, or 0 past the end.
@@ -243,7 +154,7 @@ pub fn number_of(t: &[u16], at: usize, size: usize, i: usize, j: usize) -> usize
 
 // Where section `k` starts, and how many entries it has.
 pub fn start_of(h: Head, k: usize) -> usize
-    requires { ⌜ k < 7 ⌝ }
+    requires { ⌜ k < tableSections ⌝ }
     ensures { λ r. ⌜ Reads (startOf h k) r ⌝ }
 {
     let starts = [
@@ -259,7 +170,7 @@ pub fn start_of(h: Head, k: usize) -> usize
 }
 
 pub fn count_of(h: Head, k: usize) -> usize
-    requires { ⌜ k < 7 ⌝ }
+    requires { ⌜ k < tableSections ⌝ }
     ensures { λ r. ⌜ Reads (countOf h k) r ⌝ }
 {
     let counts = [
@@ -276,7 +187,7 @@ pub fn count_of(h: Head, k: usize) -> usize
 
 // Number `j` of entry `i` of section `k`.
 pub fn entry_num(t: &[u16], h: Head, k: usize, i: usize, j: usize) -> usize
-    requires { ⌜ (k < 7) × ((i < 1048576) × (j < 8)) ⌝ }
+    requires { ⌜ (k < tableSections) × ((i < 1048576) × (j < 8)) ⌝ }
     ensures { λ r. ⌜ Reads (entry h (now (t .entry)) k i j) r ⌝ }
 {
     number_of(t, start_of(h, k), words_of(k), i, j)

@@ -3,7 +3,8 @@ use Prim.Native.Nat.{ℕ}
 use mathlib.Core.List.{List, [], _∷_, _++_}
 use Rattle.book.specs.Book.{initiate, generate, terminate}
 use Rattle.book.specs.Demand.{Use}
-use Rattle.whole_run.specs.Text.{bytes, numbers, lines, lent}
+use Rattle.file.specs.Number.{bytesOfNumbers}
+use Rattle.whole_run.specs.Text.{bytes, lines, lent}
 
 -- text at 0 width 2; number at 2 width 4
 abbrev fields : List ℕ
@@ -39,7 +40,7 @@ trailer = 0 ∷ 2 ∷ 12 ∷ 1 ∷ 14 ∷ 3 ∷ 50 ∷ 3 ∷ 74 ∷ 6 ∷ 146 �
 
 unfoldable pub description : List ℕ
 description =
-    numbers (fields ++ (controls ++ (groups ++ (groupLines ++ (items ++ (counters ++ addends)))))) ++ (bytes "PAGESUM" ++ numbers trailer)
+    bytesOfNumbers (fields ++ (controls ++ (groups ++ (groupLines ++ (items ++ (counters ++ addends)))))) ++ (bytes "PAGESUM" ++ bytesOfNumbers trailer)
 
 -- "Records AA+005, AA+007, BB-002, BB+009, then TERMINATE"
 unfoldable pub calls : List Use

@@ -41,7 +41,8 @@ use Prim.Native.Nat.{ℕ}
 use mathlib.Core.List.{List, [], _∷_, _++_}
 use Rattle.book.specs.Book.{initiate, generate, terminate}
 use Rattle.book.specs.Demand.{Use}
-use Rattle.whole_run.specs.Text.{bytes, numbers, lines, lent}
+use Rattle.file.specs.Number.{bytesOfNumbers}
+use Rattle.whole_run.specs.Text.{bytes, lines, lent}
 
 -- kind, offset and width of each field; the control's field
 abbrev fields : List ℕ
@@ -106,7 +107,7 @@ trailer = 0 ∷ 2 ∷ 12 ∷ 1 ∷ 14 ∷ 7 ∷ 98 ∷ 8 ∷ 162 ∷ 13 ∷ 318 
 
 unfoldable pub description : List ℕ
 description =
-    numbers (fields ++ (controls ++ (groups ++ (groupLines ++ (items ++ (counters ++ addends)))))) ++ (bytes "SALESPAGESHOP------=LINEEND" ++ numbers trailer)
+    bytesOfNumbers (fields ++ (controls ++ (groups ++ (groupLines ++ (items ++ (counters ++ addends)))))) ++ (bytes "SALESPAGESHOP------=LINEEND" ++ bytesOfNumbers trailer)
 
 -- the third row comes with a byte too few, and again with enough; then a second report
 unfoldable pub calls : List Use

@@ -1,5 +1,5 @@
--- Text and numbers as bytes, to write descriptions, records and sheets.
-use Prim.Native.Nat.{ℕ, _/_, _%_}
+-- Text as bytes, to write descriptions, records and sheets.
+use Prim.Native.Nat.{ℕ}
 use Prim.Native.Char.{code}
 use Prim.Native.String.{String}
 use Prim.Native.String as string
@@ -12,11 +12,6 @@ use Rattle.book.specs.Demand.{Use}
 unfoldable pub bytes : String → List ℕ
 bytes string.[] = []
 bytes (string._∷_ c s) = code c ∷ bytes s
-
--- "Numbers are 2 bytes, low byte first"
-unfoldable pub numbers : List ℕ → List ℕ
-numbers [] = []
-numbers (x ∷ xs) = x % 256 ∷ x / 256 ∷ numbers xs
 
 -- the lines of a sheet: "W characters, one byte 10" behind page and line
 unfoldable pub lines : List String → List ℕ

@@ -1,7 +1,8 @@
 -- `description::check_in` meets its contract: the tables' answer.
 -- Assumes nothing.
+use native.Mathlib.Omega.{arith}
 use borrow.Author.Needs.{needs}
-use Rattle.tables.proofs.Says.{numbers-in}
+use Rattle.file.proofs.D1.{long}
 use Rattle.description.proofs.Answer.{d1-passed, literals-in}
 use Rattle.description.proofs.check_in.Statement.{statement}
 use Rattle.description.proofs.check_in.Tie as tie
@@ -9,16 +10,15 @@ use Rattle.description.proofs.check_in.Tie as tie
 returns : tie.Need-returns
 returns c =
     let b = c .before .before .before .before .before .before .before .before .before .before in
-    let k = d1-passed (b .args .d .now) (b .pre .0) in
-    rw (k, ← c .before .before .head-of .ensures, ← c .before .before .before .before .before .before .unpack .ensures, ← c .before .literals-of .ensures) (c .judge .ensures)
+    rw (d1-passed _ (b .pre .d1), ← b .pre .head, ← c .before .before .version-of .ensures .is, ← c .before .before .before .before .before .before .unpack .ensures, ← c .before .literals-of .ensures) (c .judge .ensures)
 
 pub check-in-spec : {M : Type 1} → statement M
 check-in-spec =
     tie.close
     (tie.spec
-    (λ c κs. let p = c .before .before .before .pre in (numbers-in _ (p .0), p .1))
-    (λ c κs. c .before .before .before .before .before .before .before .pre .0)
-    (λ c κs. literals-in _ (c .before .before .before .before .before .before .before .before .pre .0))
+    (λ c κs. let p = c .before .before .before .pre in (p .d1, p .room))
+    (λ c κs. omega (arith, long _ (c .before .before .before .before .before .before .before .pre .d1)))
+    (λ c κs. literals-in _ (c .before .before .before .before .before .before .before .before .pre .d1))
     (λ c κs. search needs)
     (λ c. search needs)
     returns)

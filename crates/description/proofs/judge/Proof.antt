@@ -7,7 +7,7 @@ use Rattle.description.specs.declared.Checked.the-variants.{Accepted}
 use Rattle.description.proofs.judge.Statement.{statement}
 use Rattle.description.proofs.judge.Tie as tie
 
-past2 : (c : tie.After-enum-told) → let s = c .before .before .before .before .before .before in judged (s .args .h) (s .args .t .now) (s .args .lits .now) ≡ from3 (s .args .h) (s .args .t .now) (s .args .lits .now)
+past2 : (c : tie.After-enum-told) → let s = c .before .before .before .before .before .before in judged (s .args .v) (s .args .h) (s .args .t .now) (s .args .lits .now) ≡ from3 (s .args .h) (s .args .t .now) (s .args .lits .now)
 unfolding judged
 past2 c = simp (sym (c .before .before .rule-d2 .ensures) ∙ c .enum-told .given .1)
 
@@ -15,7 +15,7 @@ returns : tie.Need-returns
 unfolding judged
 returns c = sym (simp (sym (c .before .before .rule-d2 .ensures) ∙ c .enum-told2 .given .1))
 
-past3 : (c : tie.After-enum-told3) → let s = c .before .before .before .before .before .before .before .before .before in judged (s .args .h) (s .args .t .now) (s .args .lits .now) ≡ from4 (s .args .h) (s .args .t .now) (s .args .lits .now)
+past3 : (c : tie.After-enum-told3) → let s = c .before .before .before .before .before .before .before .before .before in judged (s .args .v) (s .args .h) (s .args .t .now) (s .args .lits .now) ≡ from4 (s .args .h) (s .args .t .now) (s .args .lits .now)
 unfolding from3
 past3 c = past2 (c .before .before .before) ∙ simp (sym (c .before .before .rule-d3 .ensures) ∙ c .enum-told3 .given .1)
 
@@ -23,7 +23,7 @@ returns-2 : tie.Need-returns-2
 unfolding from3
 returns-2 c = sym (past2 (c .before .before .before) ∙ simp (sym (c .before .before .rule-d3 .ensures) ∙ c .enum-told4 .given .1))
 
-past4 : (c : tie.After-enum-told5) → let s = c .before .before .before .before .before .before .before .before .before .before .before .before in judged (s .args .h) (s .args .t .now) (s .args .lits .now) ≡ from5 (s .args .h) (s .args .t .now) (s .args .lits .now)
+past4 : (c : tie.After-enum-told5) → let s = c .before .before .before .before .before .before .before .before .before .before .before .before in judged (s .args .v) (s .args .h) (s .args .t .now) (s .args .lits .now) ≡ from5 (s .args .h) (s .args .t .now) (s .args .lits .now)
 unfolding from4
 past4 c = past3 (c .before .before .before) ∙ simp (sym (c .before .before .rule-d4 .ensures) ∙ c .enum-told5 .given .1)
 
@@ -31,7 +31,7 @@ returns-3 : tie.Need-returns-3
 unfolding from4
 returns-3 c = sym (past3 (c .before .before .before) ∙ simp (sym (c .before .before .rule-d4 .ensures) ∙ c .enum-told6 .given .1))
 
-past5 : (c : tie.After-enum-told7) → let s = c .before .before .before .before .before .before .before .before .before .before .before .before .before .before .before in judged (s .args .h) (s .args .t .now) (s .args .lits .now) ≡ from6 (s .args .h) (s .args .t .now) (s .args .lits .now)
+past5 : (c : tie.After-enum-told7) → let s = c .before .before .before .before .before .before .before .before .before .before .before .before .before .before .before in judged (s .args .v) (s .args .h) (s .args .t .now) (s .args .lits .now) ≡ from6 (s .args .h) (s .args .t .now) (s .args .lits .now)
 unfolding from5
 past5 c = past4 (c .before .before .before) ∙ simp (sym (c .before .before .rule-d5 .ensures) ∙ c .enum-told7 .given .1)
 
@@ -39,7 +39,7 @@ returns-4 : tie.Need-returns-4
 unfolding from5
 returns-4 c = sym (past4 (c .before .before .before) ∙ simp (sym (c .before .before .rule-d5 .ensures) ∙ c .enum-told8 .given .1))
 
-past6 : (c : tie.After-enum-told9) → let s = c .before .before .before .before .before .before .before .before .before .before .before .before .before .before .before .before .before .before in judged (s .args .h) (s .args .t .now) (s .args .lits .now) ≡ from7 (s .args .h) (s .args .t .now) (s .args .lits .now)
+past6 : (c : tie.After-enum-told9) → let s = c .before .before .before .before .before .before .before .before .before .before .before .before .before .before .before .before .before .before in judged (s .args .v) (s .args .h) (s .args .t .now) (s .args .lits .now) ≡ from7 (s .args .h) (s .args .t .now) (s .args .lits .now)
 unfolding from6
 past6 c = past5 (c .before .before .before) ∙ simp (sym (c .before .before .rule-d6 .ensures) ∙ c .enum-told9 .given .1)
 
@@ -47,7 +47,7 @@ returns-5 : tie.Need-returns-5
 unfolding from6
 returns-5 c = sym (past5 (c .before .before .before) ∙ simp (sym (c .before .before .rule-d6 .ensures) ∙ c .enum-told10 .given .1))
 
-past7 : (c : tie.After-enum-told11) → let s = c .before .before .before .before .before .before .before .before .before .before .before .before .before .before .before .before .before .before .before .before .before in judged (s .args .h) (s .args .t .now) (s .args .lits .now) ≡ from8 (s .args .h) (s .args .t .now)
+past7 : (c : tie.After-enum-told11) → let s = c .before .before .before .before .before .before .before .before .before .before .before .before .before .before .before .before .before .before .before .before .before in judged (s .args .v) (s .args .h) (s .args .t .now) (s .args .lits .now) ≡ from8 (s .args .h) (s .args .t .now)
 unfolding from7
 past7 c = past6 (c .before .before .before) ∙ simp (sym (c .before .before .rule-d7 .ensures) ∙ c .enum-told11 .given .1)
 
@@ -55,7 +55,7 @@ returns-6 : tie.Need-returns-6
 unfolding from7
 returns-6 c = sym (past6 (c .before .before .before) ∙ simp (sym (c .before .before .rule-d7 .ensures) ∙ c .enum-told12 .given .1))
 
-past8 : (c : tie.After-enum-told13) → let s = c .before .before .before .before .before .before .before .before .before .before .before .before .before .before .before .before .before .before .before .before .before .before .before .before in judged (s .args .h) (s .args .t .now) (s .args .lits .now) ≡ Accepted
+past8 : (c : tie.After-enum-told13) → let s = c .before .before .before .before .before .before .before .before .before .before .before .before .before .before .before .before .before .before .before .before .before .before .before .before in judged (s .args .v) (s .args .h) (s .args .t .now) (s .args .lits .now) ≡ Accepted
 unfolding from8
 past8 c = past7 (c .before .before .before) ∙ simp (sym (c .before .before .rule-d8 .ensures) ∙ c .enum-told13 .given .1)
 

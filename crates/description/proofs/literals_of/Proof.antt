@@ -4,7 +4,7 @@ use Prim.Native.Nat.{_+_, _-_}
 use mathlib.Core.Path.{_≡_, refl}
 use native.Mathlib.Omega.{arith}
 use borrow.Author.Needs.{needs}
-use Rattle.tables.specs.Table.{literals}
+use Rattle.unpacked.specs.Table.{literals}
 use Rattle.description.proofs.literals_of.Statement.{statement}
 use Rattle.description.proofs.literals_of.Tie as tie
 

@@ -21,7 +21,7 @@ long c = leb-true 48 _ (there c)
 
 returns : tie.Need-returns
 unfolding ruleD1
-returns c = rw (there (c .before .before .before .before .before), c .rule-of .ensures, c .before .sections-ok .ensures, c .before .before .start-of .ensures .is, c .before .before .before .known-version .ensures, c .before .before .before .before .version .ensures .is)
+returns c = rw (there (c .before .before .before .before .before), c .rule-of .ensures, c .before .sections-ok .ensures, c .before .before .start-of .ensures .is, c .before .before .before .known-version .ensures, c .before .before .before .before .version-of .ensures .is)
 
 returns-2 : tie.Need-returns-2
 unfolding ruleD1

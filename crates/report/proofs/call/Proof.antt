@@ -1,18 +1,17 @@
 -- `report::call` meets its contract: refusal 1 where D1 is broken, else the call in a table of one of two sizes.
 -- Assumes nothing.
-use mathlib.Core.Path.{sym, _∙_}
-use native.Mathlib.Omega.{arith}
+use mathlib.Core.Path.{sym}
 use borrow.Author.Needs.{needs}
 use Rattle.file.proofs.Laws.{passed, failed}
-use Rattle.tables.proofs.Says.{numbers-in}
-use Rattle.description.proofs.Answer.{d1-broken, front}
+use Rattle.unpacked.specs.Table.{numbersMax}
+use Rattle.description.proofs.Answer.{d1-broken, front, numbers-few, front-room}
 use Rattle.report.proofs.Checked.{call-broken}
 use Rattle.report.proofs.call.Statement.{statement}
 use Rattle.report.proofs.call.Tie as tie
 
 -- the numbers fit an array of the most
 few : tie.Need-array-borrow-prefix-t-2
-few c = let n = numbers-in _ (passed (c .before .before .before .before .rule-d1 .ensures) (c .before .before .enum-told .given .1)) in omega (arith, n .few, c .before .numbers-of .ensures)
+few c = numbers-few _ (passed (c .before .before .before .before .before .rule-d1 .ensures) (c .before .before .before .enum-told .given .1)) (c .before .before .head-of .ensures) (c .before .numbers-of .ensures)
 
 pub call-spec : {M : Type 1} → statement M
 call-spec =
@@ -24,13 +23,14 @@ call-spec =
     (λ c κs. search needs)
     (λ c. call-broken _ _ (d1-broken _ (failed (c .before .before .before .rule-d1 .ensures) (c .before .enum-told2 .given .1))) _ _ (c .refusal .ensures) _ _ _)
     (λ c κs. passed (c .before .before .rule-d1 .ensures) (c .enum-told .given .1))
+    (λ c κs. search needs)
     (λ c. search needs)
     (λ c. sym (front _ 512 1 (c .before .if1 .taken)))
-    (λ c κs. (passed (c .before .before .before .before .before .before .rule-d1 .ensures) (c .before .before .before .before .enum-told .given .1), front _ 512 1 (c .before .before .if1 .taken) ∙ c .before .before .before .numbers-of .ensures))
+    (λ c κs. front-room _ (passed (c .before .before .before .before .before .before .before .rule-d1 .ensures) (c .before .before .before .before .before .enum-told .given .1)) (c .before .before .before .before .head-of .ensures) (c .before .before .before .numbers-of .ensures) 512 1 (c .before .before .if1 .taken))
     (λ c. search needs)
     (λ c. c .before .before .before .call-in .ensures)
     few
-    (λ c. sym (front _ 4392 1 (few (c .before))))
-    (λ c κs. (passed (c .before .before .before .before .before .before .rule-d1 .ensures) (c .before .before .before .before .enum-told .given .1), front _ 4392 1 (few (c .before .before)) ∙ c .before .before .before .numbers-of .ensures))
+    (λ c. sym (front _ numbersMax 1 (few (c .before))))
+    (λ c κs. front-room _ (passed (c .before .before .before .before .before .before .before .rule-d1 .ensures) (c .before .before .before .before .before .enum-told .given .1)) (c .before .before .before .before .head-of .ensures) (c .before .before .before .numbers-of .ensures) numbersMax 1 (few (c .before .before)))
     (λ c. search needs)
     (λ c. c .before .before .before .call-in2 .ensures))

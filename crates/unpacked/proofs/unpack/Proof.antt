@@ -1,17 +1,18 @@
--- `tables::unpack` meets its contract. The invariant: the numbers passed stand in the table.
+-- `unpacked::unpack` meets its contract. The invariant: the numbers passed stand in the table.
 -- Assumes nothing.
 use Prim.Native.Nat.{ℕ, _*_, _≤_, _<_, _-_}
-use mathlib.Core.Path.{_≡_, _∙_}
+use mathlib.Core.Path.{_≡_, sym, _∙_}
 use native.Mathlib.Omega.{arith}
 use borrow.Author.Needs.{needs}
 use borrow.Author.Count.{below-none}
 use lib.ListN.{length, getD, length-set}
 use Rattle.counts.proofs.Laws.{list-filled}
 use Rattle.file.specs.Number.{num}
-use Rattle.tables.specs.Table.{numbers, table}
+use Rattle.unpacked.specs.Table.{numbers}
 use Rattle.tables.proofs.Fill.{fill-next}
-use Rattle.tables.proofs.unpack.Statement.{statement}
-use Rattle.tables.proofs.unpack.Tie as tie
+use Rattle.unpacked.proofs.Says.{inside, block}
+use Rattle.unpacked.proofs.unpack.Statement.{statement}
+use Rattle.unpacked.proofs.unpack.Tie as tie
 
 abbrev Inv-loop : tie.InvT-loop
 Inv-loop d t₀ n i₀ t i =
@@ -33,12 +34,11 @@ loop-again c =
     )
 
 returns : tie.Need-returns Inv-loop μ-loop
-unfolding table
 returns c =
     let a = c .before .loop in
     let d = c .before .before .before .before .args .d .now in
     let p = c .before .before .before .before .pre in
-    list-filled 0 (λ k. num d (2 * k)) (numbers d) _ (a .inv .1 .0 ∙ p .1) (λ k b. a .inv .1 .1 k (omega arith))
+    list-filled 0 (λ k. num d (2 * k)) (numbers d) _ (a .inv .1 .0 ∙ p .1) (λ k b. a .inv .1 .1 k (omega arith)) ∙ sym (block d (p .0))
 
 pub unpack-spec : {M : Type 1} → statement M
 unpack-spec =
@@ -47,11 +47,11 @@ unpack-spec =
     Inv-loop
     μ-loop
     (λ c. (search needs, (search needs, below-none _)))
-    (λ c. let p = c .before .before .before .before .pre .0 .inside in omega arith)
-    (λ c. let p = c .before .before .before .before .before .pre .0 .inside in omega arith)
-    (λ c. let p = c .before .before .before .before .before .pre .0 .inside in omega arith)
-    (λ c. let p = c .before .before .before .before .before .pre .0 .inside in omega arith)
-    (λ c. let p = c .before .before .before .before .before .before .pre .0 .inside in omega arith)
+    (λ c. let p = inside _ (c .before .before .before .before .pre .0) in omega arith)
+    (λ c. let p = inside _ (c .before .before .before .before .before .pre .0) in omega arith)
+    (λ c. let p = inside _ (c .before .before .before .before .before .pre .0) in omega arith)
+    (λ c. let p = inside _ (c .before .before .before .before .before .pre .0) in omega arith)
+    (λ c. let p = inside _ (c .before .before .before .before .before .before .pre .0) in omega arith)
     (λ c κs. search needs)
     (λ c. search needs)
     (λ c. omega arith)

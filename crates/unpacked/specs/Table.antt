@@ -1,0 +1,36 @@
+-- The table of a description: the numbers of every section but the literals, and the literals.
+use Prim.Native.Nat.{ℕ, _+_, _*_}
+use mathlib.Core.List.{List}
+use lib.ListN.{take, drop}
+use Rattle.counts.specs.Below.{sumBelow, joinBelow}
+use Rattle.file.specs.Limits.{fieldsMax, controlsMax, groupsMax, linesMax, itemsMax, countersMax, addendsMax}
+use Rattle.file.specs.Trailer.{start, count}
+use Rattle.tables.specs.Section.{fieldSection, controlSection, groupSection, lineSection, itemSection, counterSection, addendSection, literalSection, tableSections, words}
+use Rattle.unpacked.specs.Entry.{sectionNumbers}
+
+-- where section k starts in the table of a description: behind the entries of the sections before it
+abbrev pub tableStart : List ℕ → ℕ → ℕ
+tableStart d k = sumBelow k (λ i. words i * count d i)
+
+-- how many numbers a description's table has: the entries of sections 0 to 6
+abbrev pub numbers : List ℕ → ℕ
+numbers d = tableStart d tableSections
+
+-- the table: the numbers of each of these sections
+unfoldable pub table : List ℕ → List ℕ
+table d = joinBelow tableSections (sectionNumbers d)
+
+-- "At most 32 fields, 8 controls, 32 groups, 128 lines, 512 items, 32 counters, 128 addends" are so many numbers
+abbrev pub numbersMax : ℕ
+numbersMax =
+    words fieldSection * fieldsMax
+    + words controlSection * controlsMax
+    + words groupSection * groupsMax
+    + words lineSection * linesMax
+    + words itemSection * itemsMax
+    + words counterSection * countersMax
+    + words addendSection * addendsMax
+
+-- the literal bytes
+unfoldable pub literals : List ℕ → List ℕ
+literals d = take (count d literalSection) (drop (start d literalSection) d)

@@ -1,0 +1,163 @@
+// The tables made from a description's bytes: its head, and the list of the numbers of every section but the literals.
+ghost use mathlib.Core.Path.{_≡_};
+ghost use mathlib.Core.Bool.{true};
+ghost use Prim.Native.Nat.{_+_, _*_, _≤_, _<_};
+ghost use lib.ListN.{length};
+ghost use Rattle.file.specs.Version.{sections, settings};
+ghost use Rattle.file.specs.Trailer.{version, HasTrailer, count, setting};
+ghost use Rattle.file.specs.Sections.{ruleD1};
+ghost use Rattle.tables.specs.Section.{tableSections, words};
+ghost use Rattle.unpacked.specs.Head.{countsOf, settingsOf, headWith, headOf, numbersOf};
+ghost use Rattle.unpacked.specs.Table.{numbersMax, numbers, table};
+use tables::Head;
+
+// The most numbers of a table.
+pub const NUMBERS_MAX: usize = 3 * file::FIELDS_MAX
+    + file::CONTROLS_MAX
+    + 6 * file::GROUPS_MAX
+    + 4 * file::LINES_MAX
+    + 6 * file::ITEMS_MAX
+    + 4 * file::COUNTERS_MAX
+    + 3 * file::ADDENDS_MAX;
+
+// What a table holds before its numbers are put in. Two bytes that differ: of equal ones LLVM makes a call of memset.
+pub const UNSET: u16 = 1;
+
+// What a head is made of: the entry counts, and the settings but the version.
+pub struct Counts {
+    pub fields: u16,
+    pub controls: u16,
+    pub groups: u16,
+    pub lines: u16,
+    pub items: u16,
+    pub counters: u16,
+    pub addends: u16,
+    pub literals: u16,
+}
+
+pub struct Settings {
+    pub page: u16,
+    pub top: u16,
+    pub fd: u16,
+    pub ld: u16,
+    pub ft: u16,
+    pub width: u16,
+    pub reclen: u16,
+}
+
+// Where the section behind section `k` starts in the table, where `k` starts at `at` and has `n` entries.
+fn start_behind(k: usize, at: u16, n: u16) -> u16
+    requires { ⌜ (k < tableSections) × (at + words k * n ≤ numbersMax) ⌝ }
+    ensures { λ r. ⌜ r ≡ at + words k * n ⌝ }
+{
+    (tables::wide(at) + tables::words_of(k) * tables::wide(n)) as u16
+}
+
+fn count16(d: &[u8], k: usize) -> u16
+    requires { ⌜ HasTrailer (now d) × (k < sections (version (now d))) ⌝ }
+    ensures { λ r. ⌜ r ≡ count (now (d .entry)) k ⌝ }
+{
+    file::count_of(d, k) as u16
+}
+
+fn setting16(d: &[u8], j: usize) -> u16
+    requires { ⌜ HasTrailer (now d) × (j < settings) ⌝ }
+    ensures { λ r. ⌜ r ≡ setting (now (d .entry)) j ⌝ }
+{
+    file::setting_of(d, j) as u16
+}
+
+fn counts_of(d: &[u8]) -> Counts
+    requires { ⌜ HasTrailer (now d) ⌝ }
+    ensures { λ r. ⌜ r ≡ countsOf (now (d .entry)) ⌝ }
+{
+    Counts {
+        fields: count16(d, tables::FIELDS),
+        controls: count16(d, tables::CONTROLS),
+        groups: count16(d, tables::GROUPS),
+        lines: count16(d, tables::LINES),
+        items: count16(d, tables::ITEMS),
+        counters: count16(d, tables::COUNTERS),
+        addends: count16(d, tables::ADDENDS),
+        literals: count16(d, tables::LITERALS),
+    }
+}
+
+fn settings_of(d: &[u8]) -> Settings
+    requires { ⌜ HasTrailer (now d) ⌝ }
+    ensures { λ r. ⌜ r ≡ settingsOf (now (d .entry)) ⌝ }
+{
+    Settings {
+        page: setting16(d, 0),
+        top: setting16(d, 1),
+        fd: setting16(d, 2),
+        ld: setting16(d, 3),
+        ft: setting16(d, 4),
+        width: setting16(d, 5),
+        reclen: setting16(d, file::RECORD_LENGTH),
+    }
+}
+
+// A head of its counts and settings: each section starts behind the one before it.
+fn head_with(n: Counts, p: Settings) -> Head
+    requires { ⌜ numbersOf (headWith n p) ≤ numbersMax ⌝ }
+    ensures { λ r. ⌜ r ≡ headWith n p ⌝ }
+{
+    let controls_at = start_behind(tables::FIELDS, 0, n.fields);
+    let groups_at = start_behind(tables::CONTROLS, controls_at, n.controls);
+    let lines_at = start_behind(tables::GROUPS, groups_at, n.groups);
+    let items_at = start_behind(tables::LINES, lines_at, n.lines);
+    let counters_at = start_behind(tables::ITEMS, items_at, n.items);
+    Head {
+        cstart: controls_at,
+        gstart: groups_at,
+        lstart: lines_at,
+        istart: items_at,
+        kstart: counters_at,
+        astart: start_behind(tables::COUNTERS, counters_at, n.counters),
+        fields: n.fields,
+        controls: n.controls,
+        groups: n.groups,
+        lines: n.lines,
+        items: n.items,
+        counters: n.counters,
+        addends: n.addends,
+        literals: n.literals,
+        page: p.page,
+        top: p.top,
+        fd: p.fd,
+        ld: p.ld,
+        ft: p.ft,
+        width: p.width,
+        reclen: p.reclen,
+    }
+}
+
+// The head of a description that passes D1.
+pub fn head_of(d: &[u8]) -> Head
+    requires { ⌜ ruleD1 (now d) ≡ true ⌝ }
+    ensures { λ r. ⌜ r ≡ headOf (now (d .entry)) ⌝ }
+{
+    head_with(counts_of(d), settings_of(d))
+}
+
+// How many numbers the table under a head has: the addends end it.
+pub fn numbers_of(h: Head) -> usize
+    ensures { λ r. ⌜ r ≡ numbersOf h ⌝ }
+{
+    tables::wide(h.astart) + tables::words_of(tables::ADDENDS) * tables::wide(h.addends)
+}
+
+// The numbers of a description that passes D1, put into a table that has just room for them: in version 1 they are the file
+// up to the literals. The bounds are known here, so that this becomes a copy of whole blocks.
+pub fn unpack(d: &[u8], t: &mut [u16])
+    requires { ⌜ (ruleD1 (now d) ≡ true) × (length (now t) ≡ numbers (now d)) ⌝ }
+    ensures { λ _. ⌜ now (t .exit) ≡ table (now (d .entry)) ⌝ }
+{
+    let n = t.len();
+    let mut i = 0;
+    while i < n {
+        t[i] = file::joined(d[2 * i], d[2 * i + 1]);
+        i += 1;
+    }
+}
