@@ -25,7 +25,7 @@ use Rattle.refusals.specs.Verdict.{number}
 use Rattle.state.specs.State.{freshAt}
 use Rattle.calls.specs.Result.{Result}
 use Rattle.state_bytes.specs.Bytes.{bytesOf, stateOf}
-use Rattle.state_bytes.proofs.Laws.{length-bytes}
+use Rattle.state_bytes.proofs.Laws.{length-bytesOf}
 use Rattle.state_bytes.proofs.Again.{state-again, in-bytes}
 use Rattle.report_c.specs.Leaves.{stored, Leaves}
 use Rattle.book.specs.Book.{Book, freshBook, enter}
@@ -126,7 +126,7 @@ module _ (d : List ℕ) where
     longs (u ∷ us) s b T z =
         let T2 = next-tracked s b T u in
         let z2 = sized d s (u .out) z (u .call) in
-        (length-bytes _ (replicate 530 0) (length-replicate {A = ℕ} 530 0) (z2 .flags) (T2 .sumsLong) (z2 .kept), longs us (did d s u .result .answer .state) _ T2 z2)
+        (length-bytesOf _ (record { sumsLong = T2 .sumsLong; flagsLong = z2 .flags; keptLong = z2 .kept }), longs us (did d s u .result .answer .state) _ T2 z2)
 
     printed-written : (xs : List (Done d)) → printedBytes (map (written d) xs) ≡ printed d xs
     unfolding printedBytes printed
