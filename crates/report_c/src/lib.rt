@@ -39,14 +39,7 @@ fn tell(a: Answer, state: &mut [u8], answer: &mut [u64])
 }
 
 // A call on the bytes of a state.
-fn call(
-    d: &[u8],
-    state: &mut [u8],
-    asked: Asked,
-    rec: &[u8],
-    out: &mut [u8],
-    answer: &mut [u64],
-)
+fn call(d: &[u8], state: &mut [u8], asked: Asked, rec: &[u8], out: &mut [u8], answer: &mut [u64])
     requires { ⌜ (length (now state) ≡ stateSize) × (length (now answer) ≡ 3) ⌝ }
     ensures { λ _. ⌜ Leaves (callSpec (now (d .entry)) (stateOf (now (state .entry))) asked (now (rec .entry)) (now (out .entry))) (now (state .entry)) (now (state .exit)) (now (out .exit)) (now (answer .exit)) ⌝ }
 {
