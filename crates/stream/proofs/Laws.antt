@@ -2,11 +2,11 @@
 -- Assumes nothing.
 use Prim.Native.Nat.{ℕ, zero, suc, _+_, _-_, _≤_, _<_}
 use mathlib.Core.Path.{_≡_, refl, sym, ap, _∙_}
-use mathlib.Core.Bool.{Bool, true, false, cond, _&&_, true≢false}
+use mathlib.Core.Bool.{Bool, true, false, cond, true≢false, and-false}
 use mathlib.Core.List.{List, _++_, append-nil}
 use native.Mathlib.Omega.{arith}
 use borrow.Author.Tests.{ltb-false, le-leb, lt-leb, ne-eqb, eq-eqb}
-use lib.Dec.{ltb, leb}
+use lib.Dec.{ltb}
 use lib.ListN.{length, take, drop, take-append-drop, length-drop, drop-of-length-le}
 use lib.Seq.{take-all}
 use borrow.Rule.Slice.PartMut.{putMid}
@@ -74,22 +74,10 @@ generate-fits d s i row o =
     (unless-fits s o _ (rowTried h t s i row) (settled-fits h t s (rowWork h t (literals d) s i row) o))
 
 -- ---- the run
-and-false : (a b : Bool) → (a && b && false) ≡ false
-and-false true true = refl
-and-false true false = refl
-and-false false b = refl
-
 stays : (d rows : List ℕ) (size : ℕ) (x : Ran) (n : ℕ) → goes rows size x ≡ false → ran d rows size n x ≡ x
 unfolding ran
 stays d rows size x zero g = refl
 stays d rows size x (suc n) g = rw g refl
-
-pub nothing : (d rows : List ℕ) (size : ℕ) (s : State) (out : List ℕ) → size ≡ 0 → begun s out ≡ generateAll d rows size s out
-unfolding generateAll
-nothing d rows size s out e = sym (stays d rows size (begun s out) (length rows) (rw e refl))
-
-none-left : (ok : Bool) (size done n : ℕ) → n < done + size → (ok && leb 1 size && leb (done + size) n) ≡ false
-none-left ok size done n l = rw (lt-leb (done + size) n l) (and-false ok (leb 1 size))
 
 -- the values of the loop
 abbrev pub here : ℕ → ℕ → Verdict → State → List ℕ → Ran
@@ -127,10 +115,13 @@ module _ (d rows : List ℕ) (size : ℕ) where
     unfolding generateAll
     underway-start = record { inRows = omega arith; inOut = omega arith; long = refl; going = refl; reaches = record { fuel = length rows; enough = omega arith; same = refl } }
 
-    pub underway-end : (x : Ran) → Underway x → length rows < x .run .done + size → Comes goal (x .run) (x .out) rows
-    underway-end x u l =
-        let e = reach-end (u .reaches) (none-left (accepted (x .run .verdict)) size (x .run .done) (length rows) l) in
+    pub underway-end : (x : Ran) → Underway x → goes rows size x ≡ false → Comes goal (x .run) (x .out) rows
+    underway-end x u g =
+        let e = reach-end (u .reaches) g in
         record { runIs = ap (λ (y : Ran). y .run) e; outIs = ap (λ (y : Ran). y .out) e; inRows = u .inRows; inOut = u .inOut }
+
+    pub underway-done : (x : Ran) → Underway x → length rows < x .run .done + size → Comes goal (x .run) (x .out) rows
+    underway-done x u l = underway-end x u (simp (lt-leb (x .run .done + size) (length rows) l, and-false))
 
     -- one record
     module _ (x : Ran) (u : Underway x) (one : 1 ≤ size) (left : x .run .done + size ≤ length rows) where

@@ -1,11 +1,10 @@
 -- `stream::generate_all` meets its contract. The invariant: a run from here gives what the run from the start gives.
 -- Assumes nothing.
 use Prim.Native.Nat.{_-_}
-use mathlib.Core.Path.{sym, ap, _∙_}
+use mathlib.Core.Path.{refl, sym, _∙_}
 use native.Mathlib.Omega.{arith}
 use borrow.Author.Needs.{needs}
-use Rattle.stream.specs.Run.{Ran}
-use Rattle.stream.proofs.Laws.{here, nothing, Underway, underway-start, underway-end, underway-next, underway-halt, room-left}
+use Rattle.stream.proofs.Laws.{here, Underway, underway-start, underway-end, underway-done, underway-next, underway-halt, room-left}
 use Rattle.stream.proofs.generate_all.Statement.{statement}
 use Rattle.stream.proofs.generate_all.Tie as tie
 
@@ -14,12 +13,6 @@ Inv-loop d rows size out₀ n state₀ k₀ at₀ verdict₀ out state k at verd
 
 abbrev μ-loop : tie.MeasureT-loop
 μ-loop d rows size out₀ n state₀ k₀ at₀ verdict₀ out state k at verdict = n - k
-
-returns : tie.Need-returns Inv-loop μ-loop
-returns c =
-    let a = c .before .before .before .before .args in
-    let e = nothing (a .d .now) (a .rows .now) (a .size) (a .s) (a .out .now) (c .if1 .taken) in
-    record { runIs = ap (λ (x : Ran). x .run) e; outIs = ap (λ (x : Ran). x .out) e; inRows = omega arith; inOut = omega arith }
 
 add-at : tie.Need-add-at Inv-loop μ-loop
 add-at c = let l = room-left _ _ _ _ _ _ (c .before .before .before .before .before .before .before .before .before .before .loop .inv) (omega arith) (omega arith) (c .before .before .before .before .before .before .call .ensures) (omega arith) in omega arith
@@ -38,7 +31,7 @@ generate-all-spec =
     (tie.spec
     Inv-loop
     μ-loop
-    returns
+    (λ c. underway-end _ _ _ _ _ _ (underway-start _ _ _ _ _) (rw (c .if1 .taken) refl))
     (λ c. underway-start _ _ _ _ _)
     (λ c. omega arith)
     (λ c. omega arith)
@@ -55,6 +48,6 @@ generate-all-spec =
     (λ c. omega arith)
     loop-again
     (λ c. omega arith)
-    (λ c. underway-end _ _ _ _ _ _ (c .before .loop .inv) (omega arith))
+    (λ c. underway-done _ _ _ _ _ _ (c .before .loop .inv) (omega arith))
     (λ c. omega arith)
     returns-3)
