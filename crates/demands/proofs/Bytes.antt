@@ -8,7 +8,7 @@ use mathlib.Core.Logic.{_⊎_, inl, inr, ⊎-elim}
 use native.Mathlib.Omega.{arith}
 use borrow.Author.Tests.{eq-eqb, ne-eqb}
 use lib.Dec.{eqb}
-use lib.ListN.{length, replicate, take, length-replicate}
+use lib.ListN.{length, take}
 use Rattle.counts.proofs.Laws.{by-test}
 use Rattle.tables.specs.declared.Head.{Head}
 use Rattle.unpacked.specs.Head.{headOf}
@@ -30,7 +30,7 @@ use Rattle.work.proofs.Ready.{zeros-good}
 use Rattle.every_call.proofs.Rules.{fresh-stands, call-stands}
 use Rattle.report.specs.Calls as calls
 use Rattle.state_bytes.specs.Bytes.{bytesOf, stateOf}
-use Rattle.state_bytes.proofs.Laws.{length-bytes}
+use Rattle.state_bytes.proofs.Laws.{length-bytesOf}
 use Rattle.state_bytes.proofs.Again.{state-again, in-bytes}
 use Rattle.report_c.specs.Leaves.{stored, Leaves}
 use Rattle.book.specs.Book.{Call, initiate, generate, terminate}
@@ -123,8 +123,7 @@ module _ (d : List ℕ) where
     longs [] s S = tt
     longs (u ∷ us) s S =
         let S2 = next-stands s S (u .call) (u .out) in
-        let z = S2 .sized in
-        (length-bytes _ (replicate 530 0) (length-replicate {A = ℕ} 530 0) (z .flagsLong) (z .sumsLong) (z .keptLong), longs us (did d s u .result .answer .state) S2)
+        (length-bytesOf _ (S2 .sized), longs us (did d s u .result .answer .state) S2)
 
     printed-written : (xs : List (Done d)) → printedBytes (map (written d) xs) ≡ printed d xs
     unfolding printedBytes printed

@@ -28,7 +28,8 @@ use Rattle.accepted.specs.Accepted.{Accepted}
 use Rattle.state.specs.declared.State.{State}
 use Rattle.state.specs.State.{idle, started, running, flagCount, keptSize, sumCount, freshAt}
 use Rattle.state.specs.Kept.{paddedRow, flagsSet}
-use Rattle.state_rules.specs.Facts.{PageIn, Sized, RunningState}
+use Rattle.state_rules.specs.Facts.{PageIn, RunningState}
+use Rattle.state.specs.State.{Sized}
 use Rattle.state_rules.proofs.States.{idle-ok, fresh-ok, started-facts, started-ok, running-facts, running-ok, by-phase}
 use Rattle.state.proofs.Kept.{length-padded, padded-zero, padded-formed, length-flagsSet, flagsSet-beyond}
 use Rattle.refusals.specs.Facts.{RowIn}

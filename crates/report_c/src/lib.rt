@@ -5,11 +5,11 @@ ghost use lib.ListN.{length};
 ghost use Rattle.description.specs.Check.{checked};
 ghost use Rattle.description.specs.Refusal.{extra as broken};
 ghost use Rattle.state.specs.State.{idle, freshAt};
-ghost use Rattle.report.specs.Calls.{initiate as initiateSpec, generate as generateSpec, terminate as terminateSpec};
+ghost use Rattle.report.specs.Calls.{call as callSpec, initiate as initiateSpec, generate as generateSpec, terminate as terminateSpec};
 ghost use Rattle.state_bytes.specs.Bytes.{stateSize, bytesOf, stateOf};
 ghost use Rattle.report_c.specs.Leaves.{Leaves, Tells};
 use answer::Answer;
-use report::Report;
+use calls::Asked;
 use state::State;
 use state_bytes::STATE_SIZE;
 
@@ -38,6 +38,16 @@ fn tell(a: Answer, state: &mut [u8], answer: &mut [u64])
     }
 }
 
+// A call on the bytes of a state.
+fn call(d: &[u8], state: &mut [u8], asked: Asked, rec: &[u8], out: &mut [u8], answer: &mut [u64])
+    requires { ⌜ (length (now state) ≡ stateSize) × (length (now answer) ≡ 3) ⌝ }
+    ensures { λ _. ⌜ Leaves (callSpec (now (d .entry)) (stateOf (now (state .entry))) asked (now (rec .entry)) (now (out .entry))) (now (state .entry)) (now (state .exit)) (now (out .exit)) (now (answer .exit)) ⌝ }
+{
+    let s = state_bytes::decode(state);
+    let a = report::call(s, d, asked, rec, out);
+    tell(a, state, answer);
+}
+
 // A fresh report.
 #[no_mangle]
 pub extern "C" fn bailcurlew_fresh(state: &mut [u8; STATE_SIZE])
@@ -52,10 +62,8 @@ pub extern "C" fn bailcurlew_fresh(state: &mut [u8; STATE_SIZE])
 pub extern "C" fn bailcurlew_initiate(d: &[u8], state: &mut [u8; STATE_SIZE], answer: &mut [u64; 3])
     ensures { λ _. ⌜ Leaves (initiateSpec (now (d .entry)) (stateOf (now (state .entry))) []) (now (state .entry)) (now (state .exit)) [] (now (answer .exit)) ⌝ }
 {
-    let s = state_bytes::decode(state);
-    let report = Report { state: s };
-    let a = report.initiate(d);
-    tell(a, state, answer);
+    let mut none = [0u8; 0];
+    call(d, state, Asked::Initiate, b"", &mut none, answer);
 }
 
 // GENERATE one record as detail number `detail`.
@@ -70,10 +78,7 @@ pub extern "C" fn bailcurlew_generate(
 )
     ensures { λ _. ⌜ Leaves (generateSpec (now (d .entry)) (stateOf (now (state .entry))) detail (now (rec .entry)) (now (out .entry))) (now (state .entry)) (now (state .exit)) (now (out .exit)) (now (answer .exit)) ⌝ }
 {
-    let s = state_bytes::decode(state);
-    let report = Report { state: s };
-    let a = report.generate(d, detail, rec, out);
-    tell(a, state, answer);
+    call(d, state, Asked::Generate(detail), rec, out, answer);
 }
 
 // TERMINATE.
@@ -86,8 +91,5 @@ pub extern "C" fn bailcurlew_terminate(
 )
     ensures { λ _. ⌜ Leaves (terminateSpec (now (d .entry)) (stateOf (now (state .entry))) (now (out .entry))) (now (state .entry)) (now (state .exit)) (now (out .exit)) (now (answer .exit)) ⌝ }
 {
-    let s = state_bytes::decode(state);
-    let report = Report { state: s };
-    let a = report.terminate(d, out);
-    tell(a, state, answer);
+    call(d, state, Asked::Terminate, b"", out, answer);
 }

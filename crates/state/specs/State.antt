@@ -1,8 +1,9 @@
 -- The state of a report: its phases, its sizes, and a fresh one.
 use Prim.Native.Nat.{ℕ}
+use mathlib.Core.Path.{_≡_}
 use mathlib.Core.Bool.{false}
 use lib.IntN.{pos}
-use lib.ListN.{replicate}
+use lib.ListN.{length, replicate}
 use Rattle.file.specs.Limits.{recordMax, countersMax, detailsMax}
 use Rattle.state.specs.declared.State.{State}
 
@@ -38,3 +39,9 @@ freshAt phase = record {
   flags = replicate flagCount false;
   kept = replicate keptSize 0;
 }
+
+-- what the types say of a state
+pub record Sized (s : State) : Type 0 where
+  pub sumsLong : length (s .sums) ≡ sumCount
+  pub flagsLong : length (s .flags) ≡ flagCount
+  pub keptLong : length (s .kept) ≡ keptSize

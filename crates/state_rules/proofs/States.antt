@@ -25,7 +25,7 @@ use Rattle.rows.proofs.Values.{same-sound, same-complete}
 use Rattle.sums.specs.Sums.{sumsOk}
 use Rattle.place.specs.Place.{lastPage}
 use Rattle.state.specs.declared.State.{State}
-use Rattle.state.specs.State.{idle, started, running, sumCount, flagCount, keptSize, freshAt}
+use Rattle.state.specs.State.{idle, started, running, sumCount, flagCount, keptSize, freshAt, Sized}
 use Rattle.state_rules.specs.Rules.{
   lastSaved,
   rangesOk,
@@ -44,7 +44,7 @@ use Rattle.state_rules.specs.Rules.{
   runningOk,
   stateOk,
 }
-use Rattle.state_rules.specs.Facts.{Testable, PageIn, Sized, Ranged, RunningState}
+use Rattle.state_rules.specs.Facts.{Testable, PageIn, Ranged, RunningState}
 use Rattle.state_rules.proofs.From.{from-at, from-intro}
 
 -- four tests in a row

@@ -4,7 +4,7 @@ use mathlib.Core.Path.{_≡_}
 use mathlib.Core.Bool.{true, false}
 use mathlib.Core.List.{List}
 use lib.IntN.{pos}
-use lib.ListN.{length, getD}
+use lib.ListN.{getD}
 use Rattle.tables.specs.declared.Head.{Head}
 use Rattle.lookup.specs.Find.{details}
 use Rattle.place.specs.Place.{lastPage}
@@ -25,12 +25,6 @@ pub record PageIn (h : Head) : Type 0 where
   pub body : h .fd ≤ h .ft
   pub foot : h .ft ≤ h .page
   pub short : h .page ≤ 999
-
--- what the types say of a state
-pub record Sized (s : State) : Type 0 where
-  pub sumsLong : length (s .sums) ≡ sumCount
-  pub flagsLong : length (s .flags) ≡ flagCount
-  pub keptLong : length (s .kept) ≡ keptSize
 
 -- "page 1 to 999,999, line 0 to P, .. saved integer 0 to 999, up to 32 sums each within ±(10^18 − 1)"
 pub record Ranged (h : Head) (s : State) : Type 0 where

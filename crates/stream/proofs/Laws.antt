@@ -2,11 +2,11 @@
 -- Assumes nothing.
 use Prim.Native.Nat.{ℕ, zero, suc, _+_, _-_, _≤_, _<_}
 use mathlib.Core.Path.{_≡_, refl, sym, ap, _∙_}
-use mathlib.Core.Bool.{Bool, true, false, cond, _&&_, true≢false}
+use mathlib.Core.Bool.{Bool, true, false, cond, true≢false, and-false}
 use mathlib.Core.List.{List, _++_, append-nil}
 use native.Mathlib.Omega.{arith}
 use borrow.Author.Tests.{ltb-false, le-leb, lt-leb, ne-eqb, eq-eqb}
-use lib.Dec.{ltb, leb}
+use lib.Dec.{ltb}
 use lib.ListN.{length, take, drop, take-append-drop, length-drop, drop-of-length-le}
 use lib.Seq.{take-all}
 use borrow.Rule.Slice.PartMut.{putMid}
@@ -23,37 +23,20 @@ use Rattle.call_text.specs.Bytes.{dueBytes, byteCount}
 use Rattle.splice.specs.Splice.{splice}
 use Rattle.state.specs.declared.State.{State}
 use Rattle.verdict.specs.declared.Verdict.{Verdict}
-use Rattle.verdict.specs.declared.Verdict.the-variants.{Accepted, Description, State as BrokenState, Phase, Detail, Length, Field, Sum, Pages, Room}
+use Rattle.verdict.specs.declared.Verdict.the-variants.{Description, Sum, Pages, Room}
 use Rattle.refusals.specs.declared.Tried.{Tried}
 use Rattle.refusals.specs.declared.Tried.the-variants.{Passed, Refused}
 use Rattle.verdict.specs.Verdict.{number, accepted}
 use Rattle.answer.specs.declared.Answer.{Answer}
 use Rattle.answer.specs.Result.{Result, Returns, refuse, answered}
 use Rattle.work.specs.Work.{Work, moved, settled}
+use Rattle.refusals.specs.Stages.{rowTried}
 use Rattle.work.specs.Rows.{rowWork}
 use Rattle.calls.specs.Calls.{unless, callOn}
-use Rattle.refusals.specs.Stages.{rowTried}
 use Rattle.report.specs.Calls.{ifAccepted, call, generate}
-use Rattle.stream.specs.Run.{Ran, further, halted, after, next, goes, ran, begun, generateAll}
-
-and-false : (a b : Bool) → (a && b && false) ≡ false
-and-false true true = refl
-and-false true false = refl
-and-false false b = refl
+use Rattle.stream.specs.Run.{Ran, next, goes, ran, begun, generateAll, Comes}
 
 -- ---- one call
-pub accepted-is : (v : Verdict) → number v ≡ 0 → v ≡ Accepted
-accepted-is Accepted e = refl
-accepted-is (Description k) e = absurd (omega arith)
-accepted-is BrokenState e = absurd (omega arith)
-accepted-is Phase e = absurd (omega arith)
-accepted-is Detail e = absurd (omega arith)
-accepted-is Length e = absurd (omega arith)
-accepted-is (Field i) e = absurd (omega arith)
-accepted-is Sum e = absurd (omega arith)
-accepted-is Pages e = absurd (omega arith)
-accepted-is Room e = absurd (omega arith)
-
 -- what is written fits, and a refusal leaves the output
 pub record Fits (o : List ℕ) (y : Result) : Type 0 where
   pub room : y .answer .count ≤ length o
@@ -93,95 +76,106 @@ generate-fits d s i row o =
     (unless-fits s o _ (rowTried h t s i row) (settled-fits h t s (rowWork h t (literals d) s i row) o))
 
 -- ---- the run
-module _ (d rows : List ℕ) (size : ℕ) where
-  pub record Reaches (x goal : Ran) : Type 0 where
-    pub fuel : ℕ
-    pub enough : length rows ≤ x .run .done + fuel
-    pub same : ran d rows size fuel x ≡ goal
+stays : (d rows : List ℕ) (size : ℕ) (x : Ran) (n : ℕ) → goes rows size x ≡ false → ran d rows size n x ≡ x
+unfolding ran
+stays d rows size x zero g = refl
+stays d rows size x (suc n) g = rw g refl
 
-  pub reach-start : (s : State) (out : List ℕ) → Reaches (begun s out) (generateAll d rows size s out)
-  unfolding generateAll
-  reach-start s out = record { fuel = length rows; enough = omega arith; same = refl }
-
-  one-more : (x goal : Ran) (n : ℕ) → goes rows size x ≡ true → ran d rows size (suc n) x ≡ goal → ran d rows size n (next d rows size x) ≡ goal
-  unfolding ran
-  one-more x goal n g e = rw g at e
-
-  pub goes-on : (x : Ran) → x .run .verdict ≡ Accepted → 1 ≤ size → x .run .done + size ≤ length rows → goes rows size x ≡ true
-  goes-on x v l m = rw (v, le-leb 1 size l, le-leb (x .run .done + size) (length rows) m) refl
-
-  stays : (x : Ran) (n : ℕ) → goes rows size x ≡ false → ran d rows size n x ≡ x
-  unfolding ran
-  stays x zero g = refl
-  stays x (suc n) g = rw g refl
-
-  pub reach-end : (x goal : Ran) → Reaches x goal → goes rows size x ≡ false → x ≡ goal
-  reach-end x goal r g = sym (stays x (r .fuel) g) ∙ r .same
-
-  fuelled : (x goal y : Ran) (n : ℕ) → length rows ≤ x .run .done + n → ran d rows size n x ≡ goal → goes rows size x ≡ true → 1 ≤ size
-      → x .run .done + size ≤ length rows → y ≡ next d rows size x → y .run .done ≡ x .run .done + size → Reaches y goal
-  fuelled x goal y zero f e g l m q k = absurd (omega arith)
-  fuelled x goal y (suc n) f e g l m q k = record { fuel = n; enough = omega arith; same = ap (ran d rows size n) q ∙ one-more x goal n g e }
-
-  -- a record accepted
-  pub reach-next : (x goal y : Ran) → Reaches x goal → x .run .verdict ≡ Accepted → 1 ≤ size → x .run .done + size ≤ length rows → y ≡ next d rows size x
-      → y .run .done ≡ x .run .done + size → Reaches y goal
-  reach-next x goal y r v l m q k = fuelled x goal y (r .fuel) (r .enough) (r .same) (goes-on x v l m) l m q k
-
-  halts : (x goal y : Ran) (n : ℕ) → length rows ≤ x .run .done + n → ran d rows size n x ≡ goal → goes rows size x ≡ true → 1 ≤ size
-      → x .run .done + size ≤ length rows → y ≡ next d rows size x → goes rows size y ≡ false → y ≡ goal
-  halts x goal y zero f e g l m q s = absurd (omega arith)
-  halts x goal y (suc n) f e g l m q s = sym (stays y n s) ∙ ap (ran d rows size n) q ∙ one-more x goal n g e
-
-  -- a record refused
-  pub reach-halt : (x goal y : Ran) → Reaches x goal → x .run .verdict ≡ Accepted → 1 ≤ size → x .run .done + size ≤ length rows → y ≡ next d rows size x
-      → accepted (y .run .verdict) ≡ false → y ≡ goal
-  reach-halt x goal y r v l m q s = halts x goal y (r .fuel) (r .enough) (r .same) (goes-on x v l m) l m q (rw s refl)
-
--- ---- the values of the loop
+-- the values of the loop
 abbrev pub here : ℕ → ℕ → Verdict → State → List ℕ → Ran
 here k at v s out = record { run = record { done = k; count = at; verdict = v; state = s }; out = out }
 
-pub nothing : (d rows : List ℕ) (size : ℕ) (s : State) (out : List ℕ) → size ≡ 0 → begun s out ≡ generateAll d rows size s out
-unfolding generateAll
-nothing d rows size s out e = sym (stays d rows size (begun s out) (length rows) (rw e refl))
+module _ (d rows : List ℕ) (size : ℕ) where
+  -- what is left gives what all of it gives, and fuel for it is left
+  pub record Reaches (done : ℕ) (x goal : Ran) : Type 0 where
+    pub fuel : ℕ
+    pub enough : length rows ≤ done + fuel
+    pub same : ran d rows size fuel x ≡ goal
 
-pub none-left : (rows : List ℕ) (size : ℕ) (x : Ran) → length rows < x .run .done + size → goes rows size x ≡ false
-none-left rows size x l = rw (lt-leb (x .run .done + size) (length rows) l) (and-false (accepted (x .run .verdict)) (leb 1 size))
+  reach-end : {done : ℕ} {x goal : Ran} → Reaches done x goal → goes rows size x ≡ false → x ≡ goal
+  reach-end {x = x} r g = sym (stays d rows size x (r .fuel) g) ∙ r .same
 
--- what is written fits in what is left
-pub room-left : (d : List ℕ) (s : State) (i : ℕ) (row o : List ℕ) {a : Answer} {tail : List ℕ} → Returns (generate d s i row o) a tail → a .count ≤ length o
-room-left d s i row o r = rw (r .answerIs) (generate-fits d s i row o .room)
+  module _ (x goal : Ran) (more : goes rows size x ≡ true) (left : x .run .done < length rows) where
+    fuelled : (n : ℕ) → length rows ≤ x .run .done + n → ran d rows size n x ≡ goal → Reaches (x .run .done + 1) (next d rows size x) goal
+    unfolding ran
+    fuelled zero f e = absurd (omega arith)
+    fuelled (suc n) f e = record { fuel = n; enough = omega arith; same = rw more at e }
 
--- the output with its end put back
-pub put-end : (at : ℕ) (out tail : List ℕ) → at ≤ length out → putMid at (length out - at) out tail ≡ take at out ++ tail
-put-end at out tail l =
-    let n = length-drop at out in
-    ap (λ (r : List ℕ). take at out ++ (tail ++ r)) (drop-of-length-le (drop at out) {i = length out - at} (omega arith)) ∙ ap (λ (r : List ℕ). take at out ++ r) (append-nil tail)
+  module _ (s : State) (old : List ℕ) where
+    abbrev goal : Ran
+    goal = generateAll d rows size s old
 
-pub whole-end : (at : ℕ) (out : List ℕ) → at ≤ length out → take (length out - at) (drop at out) ≡ drop at out
-whole-end at out l =
-    let n = length-drop at out in
-    take-all (length out - at) (drop at out) (omega arith)
+    -- a run under way: every record so far is accepted
+    pub record Underway (x : Ran) : Type 0 where
+      pub inRows : x .run .done ≤ length rows
+      pub inOut : x .run .count ≤ length (x .out)
+      pub long : length (x .out) ≡ length old
+      pub going : accepted (x .run .verdict) ≡ true
+      pub reaches : Reaches (x .run .done) x goal
 
-choose : (ok : Bool) (size : ℕ) (x : Ran) (y : Result) → accepted (y .answer .verdict) ≡ ok → cond ok (further size x y) (halted x y) ≡ after size x y
-choose ok size x y e = rw e refl
+    pub underway-start : Underway (begun s old)
+    unfolding generateAll
+    underway-start = record { inRows = omega arith; inOut = omega arith; long = refl; going = refl; reaches = record { fuel = length rows; enough = omega arith; same = refl } }
 
-module _ (d rows : List ℕ) (size : ℕ) (x : Ran) (row o full : List ℕ) {a : Answer} {tail : List ℕ} (r : Returns (generate d (x .run .state) 0 row o) a tail)
-    (e : row ≡ take size (drop (x .run .done) rows)) (f : o ≡ drop (x .run .count) (x .out)) (g : full ≡ take (x .run .count) (x .out) ++ tail) where
-  pub next-accepted : number (a .verdict) ≡ 0 → here (x .run .done + size) (x .run .count + a .count) (a .verdict) (a .state) full ≡ next d rows size x
-  unfolding next
-  next-accepted n =
-      let y = generate d (x .run .state) 0 row o in
-      let q : number (y .answer .verdict) ≡ 0 = rw (r .answerIs) at n in
-      rw (accepted-is (a .verdict) n, g, r .outIs, r .answerIs) (choose true size x y (eq-eqb (number (y .answer .verdict)) 0 q))
-      ∙ ap (after size x) (ap (λ (o′ : List ℕ). generate d (x .run .state) 0 row o′) f ∙ ap (λ (row′ : List ℕ). generate d (x .run .state) 0 row′ (drop (x .run .count) (x .out))) e)
+    pub underway-end : (x : Ran) → Underway x → goes rows size x ≡ false → Comes goal (x .run) (x .out) rows
+    underway-end x u g =
+        let e = reach-end (u .reaches) g in
+        record { runIs = ap (λ (y : Ran). y .run) e; outIs = ap (λ (y : Ran). y .out) e; inRows = u .inRows; inOut = u .inOut }
 
-  pub next-refused : (number (a .verdict) ≡ 0 → ⊥) → here (x .run .done) (x .run .count) (a .verdict) (x .run .state) full ≡ next d rows size x
-  unfolding next
-  next-refused n =
-      let y = generate d (x .run .state) 0 row o in
-      let q = ne-eqb (number (y .answer .verdict)) 0 (λ z. n (rw (r .answerIs) z)) in
-      let w : full ≡ x .out = g ∙ ap (λ (l : List ℕ). take (x .run .count) (x .out) ++ l) (r .outIs ∙ generate-fits d (x .run .state) 0 row o .untouched q ∙ f) ∙ take-append-drop (x .run .count) (x .out) in
-      rw (w, r .answerIs) (choose false size x y q)
-      ∙ ap (after size x) (ap (λ (o′ : List ℕ). generate d (x .run .state) 0 row o′) f ∙ ap (λ (row′ : List ℕ). generate d (x .run .state) 0 row′ (drop (x .run .count) (x .out))) e)
+    pub underway-done : (x : Ran) → Underway x → length rows < x .run .done + size → Comes goal (x .run) (x .out) rows
+    underway-done x u l = underway-end x u (simp (lt-leb (x .run .done + size) (length rows) l, and-false))
+
+    -- one record
+    module _ (x : Ran) (u : Underway x) (one : 1 ≤ size) (left : x .run .done + size ≤ length rows) where
+      abbrev row : List ℕ
+      row = take size (drop (x .run .done) rows)
+
+      abbrev end : List ℕ
+      end = drop (x .run .count) (x .out)
+
+      abbrev whole : List ℕ → List ℕ
+      whole tail = putMid (x .run .count) (length (x .out) - x .run .count) (x .out) tail
+
+      -- the output with its end put back
+      whole-is : (tail : List ℕ) → whole tail ≡ take (x .run .count) (x .out) ++ tail
+      whole-is tail =
+          let z = drop-of-length-le end {i = length (x .out) - x .run .count} (omega (arith, length-drop (x .run .count) (x .out))) in
+          rw z (ap (λ (r : List ℕ). take (x .run .count) (x .out) ++ r) (append-nil tail))
+
+      stepping : Reaches (x .run .done + 1) (next d rows size x) goal
+      stepping =
+          fuelled x goal (rw (u .going, le-leb 1 size one, le-leb (x .run .done + size) (length rows) left) refl) (omega arith) (u .reaches .fuel) (u .reaches .enough) (u .reaches .same)
+
+      -- as the code lends the record and the rest of the output
+      module _ {a : Answer} {tail : List ℕ}
+          (lent : Returns (generate d (x .run .state) 0 (take (x .run .done + size - x .run .done) (drop (x .run .done) rows)) (take (length (x .out) - x .run .count) end)) a tail)
+          (long : length (whole tail) ≡ length old) where
+        returns : Returns (generate d (x .run .state) 0 row end) a tail
+        returns =
+            let m : x .run .done + size - x .run .done ≡ size = omega arith in
+            rw (m, take-all (length (x .out) - x .run .count) end (omega (arith, length-drop (x .run .count) (x .out)))) at lent
+
+        pub room-left : x .run .count + a .count ≤ length (x .out)
+        room-left = rw (returns .answerIs) (omega (arith, generate-fits d (x .run .state) 0 row end .room, length-drop (x .run .count) (x .out), u .inOut))
+
+        pub underway-next : number (a .verdict) ≡ 0 → Underway (here (x .run .done + size) (x .run .count + a .count) (a .verdict) (a .state) (whole tail))
+        unfolding next
+        underway-next n =
+            let q = eq-eqb (number (generate d (x .run .state) 0 row end .answer .verdict)) 0 (rw (returns .answerIs) at n) in
+            let e : here (x .run .done + size) (x .run .count + a .count) (a .verdict) (a .state) (whole tail) ≡ next d rows size x = rw (whole-is tail, returns .outIs, returns .answerIs, q) refl in
+            record {
+              inRows = left;
+              inOut = omega (arith, room-left, u .long);
+              long = long;
+              going = eq-eqb (number (a .verdict)) 0 n;
+              reaches = record { fuel = stepping .fuel; enough = omega (arith, stepping .enough); same = rw e (stepping .same) };
+            }
+
+        pub underway-halt : (number (a .verdict) ≡ 0 → ⊥) → Comes goal (here (x .run .done) (x .run .count) (a .verdict) (x .run .state) (whole tail) .run) (whole tail) rows
+        unfolding next
+        underway-halt n =
+            let q = ne-eqb (number (generate d (x .run .state) 0 row end .answer .verdict)) 0 (λ z. n (rw (returns .answerIs) z)) in
+            let w : whole tail ≡ x .out = rw (whole-is tail, returns .outIs, generate-fits d (x .run .state) 0 row end .untouched q) (take-append-drop (x .run .count) (x .out)) in
+            let e : here (x .run .done) (x .run .count) (a .verdict) (x .run .state) (whole tail) ≡ next d rows size x = rw (w, returns .answerIs, q) refl in
+            let f = e ∙ reach-end stepping (rw (← e, ne-eqb (number (a .verdict)) 0 n) refl) in
+            record { runIs = ap (λ (z : Ran). z .run) f; outIs = ap (λ (z : Ran). z .out) f; inRows = u .inRows; inOut = omega (arith, u .inOut, u .long) }

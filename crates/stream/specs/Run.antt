@@ -20,7 +20,7 @@ pub record Ran : Type 0 where
 -- a record accepted: its lines stand behind those before it
 abbrev pub further : ℕ → Ran → Result → Ran
 further size x y = record {
-  run = record { done = x .run .done + size; count = x .run .count + y .answer .count; verdict = Accepted; state = y .answer .state };
+  run = record { done = x .run .done + size; count = x .run .count + y .answer .count; verdict = y .answer .verdict; state = y .answer .state };
   out = take (x .run .count) (x .out) ++ y .out;
 }
 
@@ -31,12 +31,12 @@ halted x y = record {
   out = x .out;
 }
 
-abbrev pub after : ℕ → Ran → Result → Ran
-after size x y = cond (accepted (y .answer .verdict)) (further size x y) (halted x y)
+abbrev pub stepped : ℕ → Ran → Result → Ran
+stepped size x y = cond (accepted (y .answer .verdict)) (further size x y) (halted x y)
 
 -- the next record
 unfoldable pub next : List ℕ → List ℕ → ℕ → Ran → Ran
-next d rows size x = after size x (generate d (x .run .state) 0 (take size (drop (x .run .done) rows)) (drop (x .run .count) (x .out)))
+next d rows size x = stepped size x (generate d (x .run .state) 0 (take size (drop (x .run .done) rows)) (drop (x .run .count) (x .out)))
 
 -- nothing is refused yet, and a whole record is left
 abbrev pub goes : List ℕ → ℕ → Ran → Bool

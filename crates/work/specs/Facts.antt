@@ -7,7 +7,7 @@ use Rattle.tables.specs.declared.Head.{Head}
 use Rattle.accepted.specs.Accepted.{Accepted}
 use Rattle.state.specs.declared.State.{State}
 use Rattle.state_rules.specs.Rules.{stateOk}
-use Rattle.state_rules.specs.Facts.{Sized}
+use Rattle.state.specs.State.{Sized}
 
 pub record Stands (h : Head) (t lits : List ℕ) (s : State) : Type 0 where
   pub accepted : Accepted h t lits

@@ -1,15 +1,14 @@
 -- `state_bytes::decode` meets its contract, part by part.
 -- Assumes nothing.
-use mathlib.Core.Path.{refl, _∙_}
-use Rattle.state_bytes.proofs.Laws.{state-read, kept-read}
 use borrow.Author.Needs.{needs}
+use Rattle.state_bytes.specs.Bytes.{stateOf}
 use Rattle.state_bytes.proofs.decode.Statement.{statement}
 use Rattle.state_bytes.proofs.decode.Tie as tie
 
 returns : tie.Need-returns
+unfolding stateOf
 returns c =
-    let b = c .before .before .before .before .before .before .before .before .before .before .args .b .now in
-    state-read b (c .before .before .before .before .before .before .before .before .phase-of .ensures) (c .before .before .before .number4 .ensures .0) (c .before .before .num-at .ensures .is) refl (c .num-at2 .ensures .is) (c .before .before .before .before .before .before .before .sums-of .ensures) (c .before .before .before .before .before .before .flags-of .ensures) (c .before .before .before .before .padded .ensures ∙ kept-read b (c .before .before .before .before .before .before .before .before .before .before .pre))
+    rw (c .number22 .ensures .is, c .before .before .number2 .ensures .is, c .before .before .before .number4 .ensures .is, c .before .before .before .before .kept-of .ensures, c .before .before .before .before .before .flags-of .ensures, c .before .before .before .before .before .before .sums-of .ensures, c .before .before .before .before .before .before .before .phase-of .ensures)
 
 pub decode-spec : {M : Type 1} → statement M
 decode-spec =
@@ -18,9 +17,6 @@ decode-spec =
     (λ c κs. search needs)
     (λ c κs. search needs)
     (λ c κs. search needs)
-    (λ c. search needs)
-    (λ c. search needs)
-    (λ c. search needs)
     (λ c κs. search needs)
     (λ c κs. search needs)
     (λ c. search needs)

@@ -9,27 +9,28 @@ use borrow.Author.Count.{below-none}
 use lib.ListN.{length, getD, length-set}
 use Rattle.counts.proofs.Laws.{list-filled}
 use Rattle.tables.proofs.Fill.{fill-next}
-use Rattle.state_bytes.specs.Bytes.{flagAt}
+use Rattle.state.specs.State.{flagCount}
+use Rattle.state_bytes.specs.Bytes.{flagsAt, flagAt}
 use Rattle.state_bytes.proofs.flags_of.Statement.{statement}
 use Rattle.state_bytes.proofs.flags_of.Tie as tie
 
 abbrev Inv-loop : tie.InvT-loop
-Inv-loop b flags₀ i₀ flags i = (i ≤ 8) × (length flags ≡ 8) × ((k : ℕ) → k < i → getD flags k false ≡ flagAt b (10 + k))
+Inv-loop b flags₀ i₀ flags i = (i ≤ flagCount) × (length flags ≡ flagCount) × ((k : ℕ) → k < i → getD flags k false ≡ flagAt b (flagsAt + k))
 
 abbrev μ-loop : tie.MeasureT-loop
-μ-loop b flags₀ i₀ flags i = 8 - i
+μ-loop b flags₀ i₀ flags i = flagCount - i
 
 loop-again : tie.Need-loop-again Inv-loop μ-loop
 loop-again c =
     let l = c .before .before .loop in
     let b = c .before .before .before .args .b .now in
-    (omega arith, simp length-set (l .inv .1), fill-next false (l .i) (l .flags) _ (λ k. flagAt b (10 + k)) (omega arith) refl (l .inv .2))
+    (omega arith, simp length-set (l .inv .1), fill-next false (l .i) (l .flags) _ (λ k. flagAt b (flagsAt + k)) (omega arith) refl (l .inv .2))
 
 returns : tie.Need-returns Inv-loop μ-loop
 returns c =
     let l = c .before .loop in
-    let e : l .i ≡ 8 = omega arith in
-    list-filled false _ 8 (l .flags) (l .inv .1) (λ k b. l .inv .2 k (rw e b))
+    let e : l .i ≡ flagCount = omega arith in
+    list-filled false _ flagCount (l .flags) (l .inv .1) (λ k b. l .inv .2 k (rw e b))
 
 pub flags-of-spec : {M : Type 1} → statement M
 flags-of-spec =

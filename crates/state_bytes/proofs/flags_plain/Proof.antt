@@ -4,19 +4,18 @@ use Prim.Native.Nat.{_+_, _-_, _≤_}
 use mathlib.Core.Path.{_≡_, refl}
 use native.Mathlib.Omega.{arith}
 use borrow.Author.Needs.{needs}
-use lib.Dec.{leb}
-use lib.ListN.{getD}
 use Rattle.counts.specs.Below.{allBelow}
 use Rattle.counts.proofs.Laws.{all-next}
-use Rattle.state_bytes.specs.Bytes.{flagsPlain}
+use Rattle.state.specs.State.{flagCount}
+use Rattle.state_bytes.specs.Bytes.{isPlain, flagsPlain}
 use Rattle.state_bytes.proofs.flags_plain.Statement.{statement}
 use Rattle.state_bytes.proofs.flags_plain.Tie as tie
 
 abbrev Inv-loop : tie.InvT-loop
-Inv-loop b ok₀ i₀ ok i = (i ≤ 9) × (ok ≡ allBelow i (λ k. leb (getD b (9 + k) 0) 1))
+Inv-loop b ok₀ i₀ ok i = (i ≤ flagCount + 1) × (ok ≡ allBelow i (isPlain b))
 
 abbrev μ-loop : tie.MeasureT-loop
-μ-loop b ok₀ i₀ ok i = 9 - i
+μ-loop b ok₀ i₀ ok i = flagCount + 1 - i
 
 loop-holds : tie.Need-loop-holds Inv-loop μ-loop
 unfolding allBelow
@@ -24,14 +23,12 @@ loop-holds c = search needs
 
 loop-again : tie.Need-loop-again Inv-loop μ-loop
 loop-again c =
-    let l = c .before .before .loop in
-    let b = c .before .before .before .args .b .now in
-    (omega arith, all-next (λ k. leb (getD b (9 + k) 0) 1) (l .i) (l .inv .1) refl)
+    (omega arith, all-next (isPlain (c .before .before .before .args .b .now)) (c .before .before .loop .i) (c .before .before .loop .inv .1) refl)
 
 returns : tie.Need-returns Inv-loop μ-loop
 unfolding flagsPlain
 returns c =
-    let e : c .before .loop .i ≡ 9 = omega arith in
+    let e : c .before .loop .i ≡ flagCount + 1 = omega arith in
     rw (c .before .loop .inv .1, e)
 
 pub flags-plain-spec : {M : Type 1} → statement M

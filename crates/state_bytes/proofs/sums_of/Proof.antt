@@ -11,28 +11,31 @@ use mir.Syntax.{w64}
 use mir.ValLaws.{toZ-ofZ}
 use Rattle.counts.proofs.Laws.{list-filled}
 use Rattle.tables.proofs.Fill.{fill-next}
-use Rattle.state_bytes.specs.Numbers.{number8, ofBits}
+use Rattle.state.specs.State.{sumCount}
+use Rattle.little_endian.specs.Numbers.{number}
+use Rattle.little_endian.specs.Sign.{ofBits}
+use Rattle.state_bytes.specs.Bytes.{sumsAt}
 use Rattle.state_bytes.proofs.sums_of.Statement.{statement}
 use Rattle.state_bytes.proofs.sums_of.Tie as tie
 
 abbrev Inv-loop : tie.InvT-loop
-Inv-loop b sums₀ i₀ sums i = (i ≤ 32) × (length sums ≡ 32) × ((k : ℕ) → k < i → getD sums k (pos 0) ≡ ofBits (number8 b (18 + 8 * k)))
+Inv-loop b sums₀ i₀ sums i = (i ≤ sumCount) × (length sums ≡ sumCount) × ((k : ℕ) → k < i → getD sums k (pos 0) ≡ ofBits (number 8 b (sumsAt + 8 * k)))
 
 abbrev μ-loop : tie.MeasureT-loop
-μ-loop b sums₀ i₀ sums i = 32 - i
+μ-loop b sums₀ i₀ sums i = sumCount - i
 
 loop-again : tie.Need-loop-again Inv-loop μ-loop
 loop-again c =
     let l = c .before .before .before .loop in
     let b = c .before .before .before .before .before .args .b .now in
     let e = toZ-ofZ w64 _ (record { sfits = c .of-bits .ok }) ∙ c .of-bits .ensures ∙ ap ofBits (c .before .number8 .ensures) in
-    (omega arith, simp length-set (l .inv .1), fill-next (pos 0) (l .i) (l .sums) _ (λ k. ofBits (number8 b (18 + 8 * k))) (omega arith) e (l .inv .2))
+    (omega arith, simp length-set (l .inv .1), fill-next (pos 0) (l .i) (l .sums) _ (λ k. ofBits (number 8 b (sumsAt + 8 * k))) (omega arith) e (l .inv .2))
 
 returns : tie.Need-returns Inv-loop μ-loop
 returns c =
     let l = c .before .loop in
-    let e : l .i ≡ 32 = omega arith in
-    list-filled (pos 0) _ 32 (l .sums) (l .inv .1) (λ k b. l .inv .2 k (rw e b))
+    let e : l .i ≡ sumCount = omega arith in
+    list-filled (pos 0) _ sumCount (l .sums) (l .inv .1) (λ k b. l .inv .2 k (rw e b))
 
 pub sums-of-spec : {M : Type 1} → statement M
 sums-of-spec =

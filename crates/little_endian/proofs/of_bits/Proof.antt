@@ -1,4 +1,4 @@
--- `state_bytes::of_bits` meets its contract, by the highest bit.
+-- `little_endian::of_bits` meets its contract, by the highest bit.
 -- Assumes nothing.
 use Prim.Native.Nat.{ℕ, _-_, _≤_}
 use mathlib.Core.Path.{_≡_, sym, ap, _∙_, subst}
@@ -8,9 +8,9 @@ use lib.IntN.{ℤ, pos, negsuc, _-ℤ_}
 use mir.Syntax.{w64}
 use mir.Val.{SFits, toZ}
 use Rattle.number.proofs.Bits.{read-natAbs, read-as}
-use Rattle.state_bytes.proofs.Laws.{below-zero, low-bits, high-bits}
-use Rattle.state_bytes.proofs.of_bits.Statement.{statement}
-use Rattle.state_bytes.proofs.of_bits.Tie as tie
+use Rattle.little_endian.proofs.Sign.{below-zero, low-bits, high-bits}
+use Rattle.little_endian.proofs.of_bits.Statement.{statement}
+use Rattle.little_endian.proofs.of_bits.Tie as tie
 
 -- what the code makes of a number with the highest bit
 module _ (x : ℕ) (h : 9223372036854775808 ≤ x) (f : x ≤ 18446744073709551615) where
