@@ -186,17 +186,17 @@ fn print_turn<'a>(
     requires { ⌜ Ready h (now t) (x .turn) (x .pos) × Room h (now t) (reading (now lits) (now kept) (now row) (now sums) (x .flag) (x .prefix)) (placeGroup h (now t) (x .turn) (x .pos) .dues) (x .at) (now out) ⌝ }
     ensures { λ r. ⌜ Printed h (now (t .entry)) (reading (now (lits .entry)) (now (kept .entry)) (now (row .entry)) (now (sums .entry)) (x .flag) (x .prefix)) (placeGroup h (now (t .entry)) (x .turn) (x .pos)) (now (out .entry)) (x .at) (now (out .exit)) r ⌝ }
 {
-    let d = x.turn;
+    let turn = x.turn;
     let from = x.pos;
     let prefix = x.prefix;
     let view = View {
         page: from.page,
         line: 0,
-        from_kept: d.from_kept,
+        from_kept: turn.from_kept,
         flag: x.flag,
         prefix,
     };
-    let r = layout::place_group(t, h, d, from);
+    let r = layout::place_group(t, h, turn, from);
     let changes = Changes {
         count: r.changes,
         view,
@@ -205,7 +205,7 @@ fn print_turn<'a>(
     let a = print_changes(t, h, lits, kept, row, sums, changes, out);
     let to = r.to;
     let start = Start {
-        group: d.group,
+        group: turn.group,
         at: tables::wide(r.at),
     };
     let group = print_of(view, to.page, start, a);

@@ -15,14 +15,14 @@ use Rattle.layout.proofs.Steps.{group-page}
 
 module _ (h : Head) (t : List ℕ) where
   -- a turn: its page changes, and the group on the page that they reach
-  pub group-dues : (d : Turn) (s : Pos) (r : Placed) → r ≡ placed h t d s
-      → placeGroup h t d s .dues ≡ pageChanges h t (d .«from_kept») (r .changes) (s .page) ++ dueOf h t (d .group) (d .«from_kept») (r .to .page) (r .at)
+  pub group-dues : (turn : Turn) (s : Pos) (r : Placed) → r ≡ placed h t turn s
+      → placeGroup h t turn s .dues ≡ pageChanges h t (turn .«from_kept») (r .changes) (s .page) ++ dueOf h t (turn .group) (turn .«from_kept») (r .to .page) (r .at)
   unfolding placeGroup
-  group-dues d s r e = rw (e, group-page h t d s) refl
+  group-dues turn s r e = rw (e, group-page h t turn s) refl
 
-  pub group-to : (d : Turn) (s : Pos) (r : Placed) → r ≡ placed h t d s → placeGroup h t d s .to ≡ r .to
+  pub group-to : (turn : Turn) (s : Pos) (r : Placed) → r ≡ placed h t turn s → placeGroup h t turn s .to ≡ r .to
   unfolding placeGroup
-  group-to d s r e = rw e refl
+  group-to turn s r e = rw e refl
 
   -- a page change: PF, and PH on the next page
   pub change-dues : (fromKept : Bool) (page : ℕ) (pf ph : Start) → pf ≡ startAt h t (h .ft) 5 → ph ≡ startAt h t (aboveHead h) 1

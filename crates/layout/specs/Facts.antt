@@ -30,7 +30,7 @@ pub record Called (h : Head) (t : List ℕ) (p : Plan) (s : Pos) : Type 0 where
   pub page : s .page ≤ lastPage
 
 -- what a turn of it needs: 17 turns of two page changes each, and RF's own page, stay below
-pub record Ready (h : Head) (t : List ℕ) (d : Turn) (s : Pos) : Type 0 where
+pub record Ready (h : Head) (t : List ℕ) (turn : Turn) (s : Pos) : Type 0 where
   pub small : Small h t
-  pub group : d .group ≤ h .groups
+  pub group : turn .group ≤ h .groups
   pub page : s .page ≤ 1000100

@@ -60,33 +60,33 @@ pageChanges h t fromKept (suc n) page = pageChange h t fromKept page ++ pageChan
 
 -- "Then, if the group has a next group (ignored on a CF more junior than b)"
 abbrev pub nextFor : Head → List ℕ → Turn → Next
-nextFor h t d = cond (d .follows) (nextOf h t (d .group)) next.None
+nextFor h t turn = cond (turn .follows) (nextOf h t (turn .group)) next.None
 
 -- a group with lines
 abbrev pub placedBy : Head → List ℕ → Turn → Pos → Landing → Placed
-placedBy h t d s l = record {
+placedBy h t turn s l = record {
   changes = l .changes;
   at = l .at;
   to = record {
     page = s .page + l .changes;
-    spot = followed (h .ft) (nextFor h t d) (l .at + span h t (d .group)) (l .spot .saved);
+    spot = followed (h .ft) (nextFor h t turn) (l .at + span h t (turn .group)) (l .spot .saved);
   };
 }
 
 unfoldable pub placedLines : Head → List ℕ → Turn → Pos → Placed
-placedLines h t d s = placedBy h t d s (landing (frameOf h t) (bodyOf h t (d .group)) (s .spot))
+placedLines h t turn s = placedBy h t turn s (landing (frameOf h t) (bodyOf h t (turn .group)) (s .spot))
 
 -- "A group without lines changes none of page, line, seen and saved; its next group is ignored."
 unfoldable pub placed : Head → List ℕ → Turn → Pos → Placed
-placed h t d s = cond (present h t (d .group)) (placedLines h t d s) (record { changes = 0; at = 0; to = s })
+placed h t turn s = cond (present h t (turn .group)) (placedLines h t turn s) (record { changes = 0; at = 0; to = s })
 
 -- "a page change for a body group makes PF, then PH, due before it"
 unfoldable pub placeGroup : Head → List ℕ → Turn → Pos → Laid
-placeGroup h t d s = record {
+placeGroup h t turn s = record {
   dues =
-      pageChanges h t (d .«from_kept») (placed h t d s .changes) (s .page)
-      ++ dueOf h t (d .group) (d .«from_kept») (s .page + placed h t d s .changes) (placed h t d s .at);
-  to = placed h t d s .to;
+      pageChanges h t (turn .«from_kept») (placed h t turn s .changes) (s .page)
+      ++ dueOf h t (turn .group) (turn .«from_kept») (s .page + placed h t turn s .changes) (placed h t turn s .at);
+  to = placed h t turn s .to;
 }
 
 abbrev pub andThen : Laid → Laid → Laid
@@ -94,7 +94,7 @@ andThen a b = record { dues = a .dues ++ b .dues; to = b .to }
 
 unfoldable pub placeAll : Head → List ℕ → List Turn → Pos → Laid
 placeAll h t [] s = record { dues = []; to = s }
-placeAll h t (d ∷ ds) s = andThen (placeGroup h t d s) (placeAll h t ds (placeGroup h t d s .to))
+placeAll h t (turn ∷ ds) s = andThen (placeGroup h t turn s) (placeAll h t ds (placeGroup h t turn s .to))
 
 -- a heading or footing at a line: "After any group prints, line is its last line"
 abbrev pub lineAfter : Head → List ℕ → ℕ → ℕ → ℕ → ℕ

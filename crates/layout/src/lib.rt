@@ -104,25 +104,25 @@ pub fn after_opening(t: &[u16], h: Head) -> Pos
 }
 
 // The next group of a turn; none where it is ignored.
-fn next_for(t: &[u16], h: Head, d: Turn) -> Next
-    requires { ⌜ d .group < 65536 ⌝ }
-    ensures { λ r. ⌜ r ≡ nextFor h (now (t .entry)) d ⌝ }
+fn next_for(t: &[u16], h: Head, turn: Turn) -> Next
+    requires { ⌜ turn .group < 65536 ⌝ }
+    ensures { λ r. ⌜ r ≡ nextFor h (now (t .entry)) turn ⌝ }
 {
-    if d.follows {
-        shape::next_of(t, h, d.group)
+    if turn.follows {
+        shape::next_of(t, h, turn.group)
     } else {
         Next::None
     }
 }
 
 // Where a group with lines lands.
-fn place_lines(t: &[u16], h: Head, d: Turn, s: Pos) -> Placed
-    requires { ⌜ Ready h (now t) d s × (present h (now t) (d .group) ≡ true) ⌝ }
-    ensures { λ r. ⌜ r ≡ placedLines h (now (t .entry)) d s ⌝ }
+fn place_lines(t: &[u16], h: Head, turn: Turn, s: Pos) -> Placed
+    requires { ⌜ Ready h (now t) turn s × (present h (now t) (turn .group) ≡ true) ⌝ }
+    ensures { λ r. ⌜ r ≡ placedLines h (now (t .entry)) turn s ⌝ }
 {
-    let next = next_for(t, h, d);
+    let next = next_for(t, h, turn);
     let f = shape::frame_of(t, h);
-    let b = shape::body_of(t, h, d.group);
+    let b = shape::body_of(t, h, turn.group);
     let spot = s.spot;
     let l = place::land(f, b, spot);
     let u = l.spot;
@@ -138,12 +138,12 @@ fn place_lines(t: &[u16], h: Head, d: Turn, s: Pos) -> Placed
 }
 
 // Where a group lands; one without lines changes nothing.
-pub fn place_group(t: &[u16], h: Head, d: Turn, s: Pos) -> Placed
-    requires { ⌜ Ready h (now t) d s ⌝ }
-    ensures { λ r. ⌜ r ≡ placed h (now (t .entry)) d s ⌝ }
+pub fn place_group(t: &[u16], h: Head, turn: Turn, s: Pos) -> Placed
+    requires { ⌜ Ready h (now t) turn s ⌝ }
+    ensures { λ r. ⌜ r ≡ placed h (now (t .entry)) turn s ⌝ }
 {
-    if fits::present_of(t, h, d.group) {
-        place_lines(t, h, d, s)
+    if fits::present_of(t, h, turn.group) {
+        place_lines(t, h, turn, s)
     } else {
         Placed {
             changes: 0,

@@ -15,10 +15,10 @@ use Rattle.counters.proofs.addends_ok.Statement.{statement}
 use Rattle.counters.proofs.addends_ok.Tie as tie
 
 abbrev Inv-loop : tie.InvT-loop
-Inv-loop t h d k first n few ok₀ j₀ ok j = (j ≤ n) × (ok ≡ allBelow j (ownAddendOk h t d k))
+Inv-loop t h details k first n few ok₀ j₀ ok j = (j ≤ n) × (ok ≡ allBelow j (ownAddendOk h t details k))
 
 abbrev μ-loop : tie.MeasureT-loop
-μ-loop t h d k first n few ok₀ j₀ ok j = n - j
+μ-loop t h details k first n few ok₀ j₀ ok j = n - j
 
 returns : tie.Need-returns Inv-loop μ-loop
 unfolding addendsOk

@@ -11,10 +11,10 @@ use Rattle.counters.proofs.counters_ok.Statement.{statement}
 use Rattle.counters.proofs.counters_ok.Tie as tie
 
 abbrev Inv-loop : tie.InvT-loop
-Inv-loop t h d n ok₀ k₀ ok k = (k ≤ n) × (ok ≡ allBelow k (counterOk h t d))
+Inv-loop t h details n ok₀ k₀ ok k = (k ≤ n) × (ok ≡ allBelow k (counterOk h t details))
 
 abbrev μ-loop : tie.MeasureT-loop
-μ-loop t h d n ok₀ k₀ ok k = n - k
+μ-loop t h details n ok₀ k₀ ok k = n - k
 
 loop-holds : tie.Need-loop-holds Inv-loop μ-loop
 unfolding allBelow
