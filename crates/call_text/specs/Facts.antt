@@ -10,7 +10,7 @@ use Rattle.compose.specs.declared.View.{View}
 use Rattle.compose.specs.Items.{onPage}
 use Rattle.compose.specs.Facts.{ItemsIn, Readable}
 use Rattle.group_text.specs.declared.Print.{Print}
-use Rattle.layout.specs.declared.Start.{Start}
+use Rattle.headings.specs.declared.Start.{Start}
 use Rattle.layout.specs.Layout.{Due, Laid}
 use Rattle.call_text.specs.Bytes.{Reading, inputsOf, dueBytes}
 use Rattle.call_text.specs.declared.Cursor.{Cursor}

@@ -11,8 +11,8 @@ ghost use Rattle.call_text.specs.Bytes.{reading, dueBytes};
 ghost use Rattle.call_text.specs.Facts.{Room, printOf, StartIn, Printed};
 use compose::View;
 use group_text::Print;
+use headings::Start;
 use layout::Pos;
-use layout::Start;
 use plan::Plan;
 use plan::Turn;
 use printed::Prefix;
@@ -128,8 +128,8 @@ fn print_change<'a>(
     ensures { λ r. ⌜ Wrote (now (out .entry)) (x .at) (dueBytes h (now (t .entry)) (reading (now (lits .entry)) (now (kept .entry)) (now (row .entry)) (now (sums .entry)) (x .view .flag) (x .view .prefix)) (pageChange h (now (t .entry)) (x .view .«from_kept») (x .view .page))) (now (out .exit)) r ⌝ }
 {
     let view = x.view;
-    let footing = layout::page_footing(t, h);
-    let heading = layout::page_heading(t, h);
+    let footing = headings::page_footing(t, h);
+    let heading = headings::page_heading(t, h);
     let pair = Pair {
         one: footing,
         two: heading,
@@ -269,8 +269,8 @@ fn print_opening<'a>(
     let p = x.plan;
     let prefix = x.prefix;
     if p.opens {
-        let rh = layout::report_heading(t, h);
-        let ph = layout::first_page_heading(t, h);
+        let rh = headings::report_heading(t, h);
+        let ph = headings::first_page_heading(t, h);
         let pos = layout::after_opening(t, h);
         let view = View {
             page: 1,
@@ -311,8 +311,8 @@ fn print_closing<'a>(
     let from = x.pos;
     let prefix = x.prefix;
     if p.closes {
-        let pf = layout::page_footing(t, h);
-        let rf = layout::report_footing(t, h);
+        let pf = headings::page_footing(t, h);
+        let rf = headings::report_footing(t, h);
         let pos = layout::after_closing(t, h, from);
         let view = View {
             page: from.page,

@@ -6,11 +6,11 @@ use Prim.Native.Nat.{ℕ, _+_}
 use Rattle.tables.specs.declared.Head.{Head}
 use Rattle.fits.specs.Starts.{aboveHead, headEnd, footEnd}
 use Rattle.plan.specs.declared.Turn.{Turn}
+use Rattle.headings.specs.declared.Start.{Start}
+use Rattle.headings.specs.Headings.{startAt}
 use Rattle.layout.specs.declared.Pos.{Pos}
 use Rattle.layout.specs.declared.Placed.{Placed}
-use Rattle.layout.specs.declared.Start.{Start}
 use Rattle.layout.specs.Layout.{dueOf, pageChange, pageChanges, placed, placeGroup, opening, closing}
-use Rattle.layout.specs.Facts.{startAt}
 use Rattle.layout.proofs.Steps.{group-page}
 
 module _ (h : Head) (t : List ℕ) where

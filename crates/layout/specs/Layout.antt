@@ -3,11 +3,10 @@ use Prim.Native.Nat.{ℕ, zero, suc, _+_}
 use mathlib.Core.Bool.{Bool, true, false, cond}
 use mathlib.Core.List.{List, [], _∷_, _++_}
 use lib.Dec.{eqb}
-use Rattle.tables.specs.Kinds.{typeRH, typePH, typePF, typeRF, lineNextPage}
+use Rattle.tables.specs.Kinds.{lineNextPage}
 use Rattle.tables.specs.declared.Head.{Head}
-use Rattle.lookup.specs.Find.{theGroup}
 use Rattle.lines.specs.Lines.{kindOf, span}
-use Rattle.fits.specs.Starts.{present, startFrom, aboveHead, headEnd, footEnd}
+use Rattle.fits.specs.Starts.{present, startFrom, aboveHead}
 use Rattle.place.specs.declared.Next.{Next}
 use Rattle.place.specs.declared.Next.the-variants as next
 use Rattle.place.specs.declared.Landing.{Landing}
@@ -16,6 +15,7 @@ use Rattle.shape.specs.Shape.{bodyOf, nextOf, frameOf}
 use Rattle.plan.specs.declared.Turn.{Turn}
 use Rattle.plan.specs.declared.Plan.{Plan}
 use Rattle.plan.specs.Plan.{turns}
+use Rattle.headings.specs.Headings.{reportHeading, pageHeading, pageFooting, reportFooting, rhAt, phAt, pfAt, rfAt}
 use Rattle.layout.specs.declared.Pos.{Pos}
 use Rattle.layout.specs.declared.Placed.{Placed}
 
@@ -34,18 +34,6 @@ pub record Laid : Type 0 where
 unfoldable pub dueOf : Head → List ℕ → ℕ → Bool → ℕ → ℕ → List Due
 dueOf h t g fromKept page at =
     cond (present h t g) (record { group = g; fromKept = fromKept; page = page; at = at } ∷ []) []
-
-abbrev pub reportHeading : Head → List ℕ → ℕ
-reportHeading h t = theGroup h t typeRH 0
-
-abbrev pub pageHeading : Head → List ℕ → ℕ
-pageHeading h t = theGroup h t typePH 0
-
-abbrev pub pageFooting : Head → List ℕ → ℕ
-pageFooting h t = theGroup h t typePF 0
-
-abbrev pub reportFooting : Head → List ℕ → ℕ
-reportFooting h t = theGroup h t typeRF 0
 
 -- "A page change prints PF, adds 1 to page, .. prints PH."; "A PH or PF printed for a group reads as that group does."
 unfoldable pub pageChange : Head → List ℕ → Bool → ℕ → List Due
@@ -101,12 +89,6 @@ abbrev pub lineAfter : Head → List ℕ → ℕ → ℕ → ℕ → ℕ
 lineAfter h t g at line = cond (present h t g) (at + span h t g) line
 
 -- "First GENERATE: .. RH, PH": on page 1, where no body group has printed
-abbrev pub rhAt : Head → List ℕ → ℕ
-rhAt h t = startFrom h t (aboveHead h) (reportHeading h t)
-
-abbrev pub phAt : Head → List ℕ → ℕ
-phAt h t = startFrom h t (headEnd h t) (pageHeading h t)
-
 unfoldable pub opening : Head → List ℕ → Laid
 opening h t = record {
   dues = dueOf h t (reportHeading h t) false 1 (rhAt h t) ++ dueOf h t (pageHeading h t) false 1 (phAt h t);
@@ -119,12 +101,6 @@ opening h t = record {
 -- "RF on next page: after PF, page rises by 1, line is 0, seen clears, no heading prints."
 abbrev pub ownPage : Head → List ℕ → Bool
 ownPage h t = cond (present h t (reportFooting h t)) (eqb (kindOf h t (reportFooting h t)) lineNextPage) false
-
-abbrev pub pfAt : Head → List ℕ → ℕ
-pfAt h t = startFrom h t (h .ft) (pageFooting h t)
-
-abbrev pub rfAt : Head → List ℕ → ℕ
-rfAt h t = startFrom h t (footEnd h t) (reportFooting h t)
 
 abbrev pub afterFooting : Head → List ℕ → Pos → Pos
 afterFooting h t s = record {

@@ -22,7 +22,8 @@ use Rattle.place.proofs.Within.{within, rises, at-most-two, line-le, followed-g
 use Rattle.shape.specs.Shape.{bodyOf, nextOf, frameOf}
 use Rattle.plan.specs.declared.Turn.{Turn}
 use Rattle.layout.specs.declared.Pos.{Pos}
-use Rattle.layout.specs.Layout.{Due, Laid, dueOf, pageHeading, pageFooting, pageChange, pageChanges, nextFor, placedLines, placed, placeGroup, andThen, placeAll}
+use Rattle.headings.specs.Headings.{pageHeading, pageFooting}
+use Rattle.layout.specs.Layout.{Due, Laid, dueOf, pageChange, pageChanges, nextFor, placedLines, placed, placeGroup, andThen, placeAll}
 use Rattle.pagination.specs.All.{All}
 use Rattle.pagination.specs.Rising.{rank}
 use Rattle.pagination.specs.Parts.{partFrom, partTo}

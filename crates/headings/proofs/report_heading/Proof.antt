@@ -1,7 +1,7 @@
--- `layout::report_heading` meets its contract: counted from the line above H. Assumes nothing.
+-- `headings::report_heading` meets its contract: counted from the line above H. Assumes nothing.
 use borrow.Author.Needs.{needs}
-use Rattle.layout.proofs.report_heading.Statement.{statement}
-use Rattle.layout.proofs.report_heading.Tie as tie
+use Rattle.headings.proofs.report_heading.Statement.{statement}
+use Rattle.headings.proofs.report_heading.Tie as tie
 
 pub report-heading-spec : {M : Type 1} → statement M
 report-heading-spec =

@@ -1,7 +1,7 @@
--- `layout::report_footing` meets its contract: counted from PF's last line. Assumes nothing.
+-- `headings::report_footing` meets its contract: counted from PF's last line. Assumes nothing.
 use borrow.Author.Needs.{needs}
-use Rattle.layout.proofs.report_footing.Statement.{statement}
-use Rattle.layout.proofs.report_footing.Tie as tie
+use Rattle.headings.proofs.report_footing.Statement.{statement}
+use Rattle.headings.proofs.report_footing.Tie as tie
 
 pub report-footing-spec : {M : Type 1} → statement M
 report-footing-spec =

@@ -1,7 +1,7 @@
--- `layout::first_page_heading` meets its contract: counted from RH's last line. Assumes nothing.
+-- `headings::first_page_heading` meets its contract: counted from RH's last line. Assumes nothing.
 use borrow.Author.Needs.{needs}
-use Rattle.layout.proofs.first_page_heading.Statement.{statement}
-use Rattle.layout.proofs.first_page_heading.Tie as tie
+use Rattle.headings.proofs.first_page_heading.Statement.{statement}
+use Rattle.headings.proofs.first_page_heading.Tie as tie
 
 pub first-page-heading-spec : {M : Type 1} → statement M
 first-page-heading-spec =

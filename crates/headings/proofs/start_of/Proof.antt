@@ -1,8 +1,8 @@
--- `layout::start_of` meets its contract: the group found, and its first line. Assumes nothing.
+-- `headings::start_of` meets its contract: the group found, and its first line. Assumes nothing.
 use native.Mathlib.Omega.{arith}
 use borrow.Author.Needs.{needs}
-use Rattle.layout.proofs.start_of.Statement.{statement}
-use Rattle.layout.proofs.start_of.Tie as tie
+use Rattle.headings.proofs.start_of.Statement.{statement}
+use Rattle.headings.proofs.start_of.Tie as tie
 
 pub start-of-spec : {M : Type 1} → statement M
 start-of-spec =

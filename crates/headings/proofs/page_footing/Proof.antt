@@ -1,7 +1,7 @@
--- `layout::page_footing` meets its contract: counted from FT. Assumes nothing.
+-- `headings::page_footing` meets its contract: counted from FT. Assumes nothing.
 use borrow.Author.Needs.{needs}
-use Rattle.layout.proofs.page_footing.Statement.{statement}
-use Rattle.layout.proofs.page_footing.Tie as tie
+use Rattle.headings.proofs.page_footing.Statement.{statement}
+use Rattle.headings.proofs.page_footing.Tie as tie
 
 pub page-footing-spec : {M : Type 1} → statement M
 page-footing-spec =

@@ -1,7 +1,7 @@
--- `layout::page_heading` meets its contract: counted from the line above H. Assumes nothing.
+-- `headings::page_heading` meets its contract: counted from the line above H. Assumes nothing.
 use borrow.Author.Needs.{needs}
-use Rattle.layout.proofs.page_heading.Statement.{statement}
-use Rattle.layout.proofs.page_heading.Tie as tie
+use Rattle.headings.proofs.page_heading.Statement.{statement}
+use Rattle.headings.proofs.page_heading.Tie as tie
 
 pub page-heading-spec : {M : Type 1} → statement M
 page-heading-spec =
