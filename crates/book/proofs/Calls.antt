@@ -25,7 +25,7 @@ use Rattle.rows.proofs.Fields.{first-malformed}
 use Rattle.rows.proofs.Breaks.{break-values, break-none}
 use Rattle.sums.proofs.Range.{getD-set}
 use Rattle.amounts.specs.Totals.{totalsLast}
-use Rattle.compose.specs.Facts.{ItemsIn}
+use Rattle.line_text.specs.Facts.{ItemsIn}
 use Rattle.plan.specs.Plan.{firstPlan, laterPlan, lastPlan}
 use Rattle.layout.specs.declared.Pos.{Pos}
 use Rattle.layout.specs.Layout.{layout}

@@ -16,7 +16,7 @@ use Rattle.tables.specs.Head.{headOf}
 use Rattle.tables.specs.Table.{table}
 use Rattle.description.specs.declared.Checked.the-variants.{Accepted}
 use Rattle.printed.specs.Printed.{Short}
-use Rattle.compose.specs.Facts.{ItemsIn}
+use Rattle.line_text.specs.Facts.{ItemsIn}
 use Rattle.layout.specs.declared.Pos.{Pos}
 use Rattle.layout.specs.Layout.{Due}
 use Rattle.call_text.specs.Bytes.{Reading, dueBytes, byteCount}

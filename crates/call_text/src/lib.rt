@@ -9,9 +9,9 @@ ghost use Rattle.layout.specs.Layout.{dueOf, pageChange, pageChanges, placeGrou
 ghost use Rattle.layout.specs.Facts.{Called, Ready};
 ghost use Rattle.call_text.specs.Bytes.{reading, dueBytes};
 ghost use Rattle.call_text.specs.Facts.{Room, printOf, StartIn, Printed};
-use compose::View;
 use group_text::Print;
 use headings::Start;
+use item_text::View;
 use layout::Pos;
 use plan::Plan;
 use plan::Turn;
@@ -62,7 +62,7 @@ pub struct Task {
 fn print_of(v: View, page: u32, s: Start, at: usize) -> Print
     ensures { λ r. ⌜ r ≡ printOf v page s at ⌝ }
 {
-    let first = compose::on_page(v, page, s.at as u64);
+    let first = item_text::on_page(v, page, s.at as u64);
     Print {
         group: s.group,
         first,
@@ -159,7 +159,7 @@ fn print_changes<'a>(
     let mut page = from.page;
     let mut to = x.at;
     while left > 0 {
-        let view = compose::on_page(from, page, 0);
+        let view = item_text::on_page(from, page, 0);
         let change = Changes {
             count: 1,
             view,

@@ -19,7 +19,7 @@ use Rattle.tables.specs.Table.{table, literals}
 use Rattle.description.specs.declared.Checked.the-variants.{Accepted}
 use Rattle.description.specs.Check.{checked}
 use Rattle.accepted.proofs.Accept.{accepted}
-use Rattle.compose.specs.Facts.{ItemsIn}
+use Rattle.line_text.specs.Facts.{ItemsIn}
 use Rattle.layout.specs.Lines.{lineTotal}
 use Rattle.printed.specs.Printed.{noPrefix, Short}
 use Rattle.printed.proofs.Laws.{no-prefix-short}
