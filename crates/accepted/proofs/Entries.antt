@@ -22,7 +22,7 @@ use Rattle.counters.specs.Addends.{fieldAddendOk, counterAddendOk, addendOk}
 use Rattle.counters.specs.Counters.{ownAddendOk, addendsOk, counterOk, ruleD8}
 use Rattle.rows.specs.Facts.{FieldsIn, ControlsIn}
 use Rattle.sums.specs.Facts.{AddendIn, CountersIn}
-use Rattle.compose.specs.Facts.{ItemIn, ItemsIn}
+use Rattle.line_text.specs.Facts.{ItemIn, ItemsIn}
 
 -- a width of its kind: a number's is at most 18
 number-width : (k w : ℕ) → (eqb k 0 && leb 1 w && leb w 64 || eqb k 1 && leb 2 w && leb w 18) ≡ true → k ≡ 1 → w ≤ 18

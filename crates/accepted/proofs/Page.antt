@@ -23,7 +23,8 @@ use Rattle.place.specs.declared.Frame.{Frame}
 use Rattle.place.specs.Rules.{FitsPart, Described, NextIn}
 use Rattle.shape.specs.Shape.{asFirst, asNext, lowOf, bodyOf, nextOf, headLine, frameOf}
 use Rattle.shape.specs.Facts.{Small}
-use Rattle.layout.specs.Layout.{reportHeading, pageHeading, pageFooting, reportFooting, rhAt, phAt, pfAt, rfAt, ownPage}
+use Rattle.headings.specs.Headings.{reportHeading, pageHeading, pageFooting, reportFooting, rhAt, phAt, pfAt, rfAt}
+use Rattle.layout.specs.Layout.{ownPage}
 use Rattle.pagination.specs.Facts.{PageFits}
 use Rattle.pagination.proofs.Groups.{type-is}
 use Rattle.accepted.proofs.Index.{group-ok, Lined, lined}

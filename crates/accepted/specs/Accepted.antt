@@ -6,7 +6,7 @@ use Rattle.tables.specs.declared.Head.{Head}
 use Rattle.lookup.specs.Find.{details}
 use Rattle.rows.specs.Facts.{FieldsIn, ControlsIn}
 use Rattle.sums.specs.Facts.{CountersIn}
-use Rattle.compose.specs.Facts.{ItemsIn}
+use Rattle.line_text.specs.Facts.{ItemsIn}
 use Rattle.shape.specs.Facts.{Small}
 use Rattle.pagination.specs.Facts.{PageFits}
 

@@ -1,4 +1,4 @@
--- The sums of every call stay good: in range, 32 of them, and 0 beyond the counters.
+-- The sums of every call stay good: in range, as many as counters may be, and 0 beyond the counters.
 -- Assumes nothing.
 use Prim.Native.Nat.{ℕ, _≤_, _<_}
 use mathlib.Core.Path.{_≡_, refl, _∙_}
@@ -9,6 +9,7 @@ use lib.IntN.{ℤ, pos, _+ℤ_}
 use lib.ListN.{length, getD, set, length-set}
 use lib.Seq.{getD-set-other}
 use Rattle.counts.proofs.Laws.{by-cond}
+use Rattle.file.specs.Limits.{countersMax}
 use Rattle.tables.specs.declared.Head.{Head}
 use Rattle.sums.specs.declared.Totals.{Totals}
 use Rattle.sums.specs.Subtotal.{subtotal}
@@ -22,14 +23,14 @@ use Rattle.amounts.proofs.Kept.{footings-keeps}
 -- sums of n counters
 pub record GoodSums (n : ℕ) (l : List ℤ) : Type 0 where
   pub range : sumsOk l ≡ true
-  pub long : length l ≡ 32
+  pub long : length l ≡ countersMax
   pub beyond : (i : ℕ) → n ≤ i → getD l i (pos 0) ≡ pos 0
 
 -- totals of n counters; what footings show is in range too
 pub record GoodTotals (n : ℕ) (acc : Totals) : Type 0 where
   pub sums : GoodSums n (acc .sums)
   pub shown : sumsOk (acc .shown) ≡ true
-  pub long : length (acc .shown) ≡ 32
+  pub long : length (acc .shown) ≡ countersMax
 
 good-set : (n : ℕ) (l : List ℤ) (k : ℕ) (z : ℤ) → k < n → inRange z ≡ true → GoodSums n l → GoodSums n (set l k z)
 good-set n l k z b r g =
@@ -42,7 +43,7 @@ good-set n l k z b r g =
 good-put : (n k : ℕ) (z : ℤ) (acc : Totals) → k < n → inRange z ≡ true → GoodTotals n acc → GoodTotals n (put k z acc)
 good-put n k z acc b r g = record { sums = good-set n (acc .sums) k z b r (g .sums); shown = g .shown; long = g .long }
 
-good-closed : (n : ℕ) → n ≤ 32 → Closed n (GoodTotals n)
+good-closed : (n : ℕ) → n ≤ countersMax → Closed n (GoodTotals n)
 unfolding addAt
 good-closed n few =
     record {
@@ -53,7 +54,7 @@ good-closed n few =
       zero = λ k acc b g. good-put n k (pos 0) acc b refl g;
     }
 
-module _ (h : Head) (t : List ℕ) (few : h .counters ≤ 32) (old : List ℤ) (good : GoodSums (h .counters) old) where
+module _ (h : Head) (t : List ℕ) (few : h .counters ≤ countersMax) (old : List ℤ) (good : GoodSums (h .counters) old) where
   back : (ok : Bool) → GoodTotals (h .counters) (record { ok = ok; sums = old; shown = old })
   back ok = record { sums = good; shown = good .range; long = good .long }
 
@@ -61,19 +62,19 @@ module _ (h : Head) (t : List ℕ) (few : h .counters ≤ 32) (old : List ℤ) (
   unfolding oldIfRefused
   old-if-refused-good {r} g = by-cond (GoodTotals (h .counters)) (r .ok) (λ e. g) (λ e. back false)
 
-  added : (row : List ℕ) (d : ℕ) {acc : Totals} → GoodTotals (h .counters) acc → GoodTotals (h .counters) (subtotal h t row d acc)
-  added row d g = subtotal-keeps h t (GoodTotals (h .counters)) (good-closed (h .counters) few .add) row d g
+  added : (row : List ℕ) (detail : ℕ) {acc : Totals} → GoodTotals (h .counters) acc → GoodTotals (h .counters) (subtotal h t row detail acc)
+  added row detail g = subtotal-keeps h t (GoodTotals (h .counters)) (good-closed (h .counters) few .add) row detail g
 
   footed : (b : ℕ) {acc : Totals} → GoodTotals (h .counters) acc → GoodTotals (h .counters) (footings h t b acc)
   footed b g = footings-keeps h t (good-closed (h .counters) few) b g
 
-  pub first-good : (row : List ℕ) (d : ℕ) → GoodTotals (h .counters) (totalsFirst h t row d old)
+  pub first-good : (row : List ℕ) (detail : ℕ) → GoodTotals (h .counters) (totalsFirst h t row detail old)
   unfolding totalsFirst
-  first-good row d = old-if-refused-good (search (added, back))
+  first-good row detail = old-if-refused-good (search (added, back))
 
-  pub later-good : (row : List ℕ) (d b : ℕ) → GoodTotals (h .counters) (totalsLater h t row d b old)
+  pub later-good : (row : List ℕ) (detail b : ℕ) → GoodTotals (h .counters) (totalsLater h t row detail b old)
   unfolding totalsLater
-  later-good row d b = old-if-refused-good (search (added, footed, back))
+  later-good row detail b = old-if-refused-good (search (added, footed, back))
 
   pub last-good : GoodTotals (h .counters) (totalsLast h t old)
   unfolding totalsLast

@@ -3,11 +3,10 @@
 use Prim.Native.Nat.{ℕ, _+_, _-_}
 use mathlib.Core.List.{List}
 use lib.Dec.{ltb}
-use Rattle.counts.proofs.Laws.{by-cond}
+use Rattle.counts.proofs.Laws.{by-cond, fold-keeps}
 use Rattle.tables.specs.declared.Head.{Head}
 use Rattle.lookup.specs.Find.{theGroup}
 use Rattle.sums.specs.declared.Totals.{Totals}
-use Rattle.sums.proofs.Folds.{fold-keeps}
 use Rattle.footing.proofs.Kept.{Closed, footing-keeps}
 use Rattle.amounts.specs.Totals.{footingAt, footings}
 

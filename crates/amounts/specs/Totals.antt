@@ -30,11 +30,11 @@ oldIfRefused old r = cond (r .ok) r (record { ok = false; sums = old; shown = ol
 
 -- the first GENERATE: "all CH senior to junior; then subtotal"
 unfoldable pub totalsFirst : Head → List ℕ → List ℕ → ℕ → List ℤ → Totals
-totalsFirst h t row d old = oldIfRefused old (subtotal h t row d (fresh old))
+totalsFirst h t row detail old = oldIfRefused old (subtotal h t row detail (fresh old))
 
 -- a later one, with a break at level b or (b the number of controls) none: "CFs from junior up to b, then .. subtotal"
 unfoldable pub totalsLater : Head → List ℕ → List ℕ → ℕ → ℕ → List ℤ → Totals
-totalsLater h t row d b old = oldIfRefused old (subtotal h t row d (footings h t b (fresh old)))
+totalsLater h t row detail b old = oldIfRefused old (subtotal h t row detail (footings h t b (fresh old)))
 
 -- TERMINATE "when running: break at level 0, all CFs"
 unfoldable pub totalsLast : Head → List ℕ → List ℤ → Totals

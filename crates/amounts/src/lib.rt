@@ -79,14 +79,14 @@ pub fn totals_first(
     t: &[u16],
     h: Head,
     row: &[u8],
-    d: usize,
+    detail: usize,
     old: [i64; file::COUNTERS_MAX],
 ) -> Totals
-    requires { ⌜ Adding h (now t) (now row) d (freshSpec old) ⌝ }
-    ensures { λ r. ⌜ r ≡ totalsFirst h (now (t .entry)) (now (row .entry)) d old ⌝ }
+    requires { ⌜ Adding h (now t) (now row) detail (freshSpec old) ⌝ }
+    ensures { λ r. ⌜ r ≡ totalsFirst h (now (t .entry)) (now (row .entry)) detail old ⌝ }
 {
     let mut sums = old;
-    let ok = sums::subtotal(t, h, row, d, true, &mut sums);
+    let ok = sums::subtotal(t, h, row, detail, true, &mut sums);
     old_if_refused(old, ok, sums, old)
 }
 
@@ -95,17 +95,17 @@ pub fn totals_later(
     t: &[u16],
     h: Head,
     row: &[u8],
-    d: usize,
+    detail: usize,
     b: usize,
     old: [i64; file::COUNTERS_MAX],
 ) -> Totals
-    requires { ⌜ Adding h (now t) (now row) d (freshSpec old) × (b ≤ h .controls) ⌝ }
-    ensures { λ r. ⌜ r ≡ totalsLater h (now (t .entry)) (now (row .entry)) d b old ⌝ }
+    requires { ⌜ Adding h (now t) (now row) detail (freshSpec old) × (b ≤ h .controls) ⌝ }
+    ensures { λ r. ⌜ r ≡ totalsLater h (now (t .entry)) (now (row .entry)) detail b old ⌝ }
 {
     let mut sums = old;
     let mut shown = old;
     let footed = footings(t, h, b, true, &mut sums, &mut shown);
-    let ok = sums::subtotal(t, h, row, d, footed, &mut sums);
+    let ok = sums::subtotal(t, h, row, detail, footed, &mut sums);
     old_if_refused(old, ok, sums, shown)
 }
 

@@ -3,8 +3,8 @@ use Prim.Native.Nat.{ℕ, _+_}
 use mathlib.Core.List.{List, [], _∷_, _++_}
 use Rattle.tables.specs.declared.Head.{Head}
 use Rattle.tables.specs.Table.{firstLine}
-use Rattle.compose.specs.Items.{onLine}
-use Rattle.compose.specs.Lines.{lineBytes}
+use Rattle.item_text.specs.Items.{onLine}
+use Rattle.line_text.specs.Lines.{lineBytes}
 use Rattle.layout.specs.Layout.{Due}
 use Rattle.layout.specs.Lines.{linesOf}
 use Rattle.call_text.specs.Bytes.{Reading, inputsOf, viewOf}

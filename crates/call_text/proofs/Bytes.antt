@@ -22,8 +22,8 @@ use Rattle.fits.specs.Starts.{present}
 use Rattle.plan.specs.declared.Turn.{Turn}
 use Rattle.plan.specs.declared.Plan.{Plan}
 use Rattle.plan.specs.Plan.{turns}
-use Rattle.compose.specs.declared.View.{View}
-use Rattle.compose.specs.Facts.{ItemsIn}
+use Rattle.item_text.specs.declared.View.{View}
+use Rattle.line_text.specs.Facts.{ItemsIn}
 use Rattle.group_text.specs.Groups.{groupBytes}
 use Rattle.group_text.proofs.Groups.{length-groupBytes}
 use Rattle.layout.specs.declared.Pos.{Pos}

@@ -7,9 +7,9 @@ use Rattle.splice.specs.Splice.{Wrote}
 use Rattle.splice.proofs.Going.{Going, going-start, going-room, going-rest, going-on, going-last, going-end}
 use Rattle.tables.specs.declared.Head.{Head}
 use Rattle.layout.specs.declared.Pos.{Pos}
-use Rattle.layout.specs.declared.Start.{Start}
+use Rattle.headings.specs.declared.Start.{Start}
 use Rattle.layout.specs.Layout.{Due, nothing}
-use Rattle.layout.specs.Facts.{Starts}
+use Rattle.headings.specs.Headings.{Starts}
 use Rattle.call_text.specs.Bytes.{Reading, dueBytes}
 use Rattle.call_text.specs.Facts.{Printable, Room, StartIn, Printed}
 use Rattle.call_text.proofs.Bytes.{bytes-append}

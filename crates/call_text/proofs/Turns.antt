@@ -23,29 +23,29 @@ use Rattle.call_text.specs.Facts.{Room, Printed}
 use Rattle.call_text.proofs.Prints.{Printing, printing-start, printing-rest, printing-room, printing-on, printing-last, printing-end}
 
 -- one turn, from where it is placed
-module _ {h : Head} {t : List ℕ} {rd : Reading} (d : Turn) (s : Pos) (start : ℕ) (old : List ℕ) (room : Room h t rd (placeGroup h t d s .dues) start old)
-    (r : Placed) (e : r ≡ placed h t d s) (line : ℕ) (f : line ≡ r .at) where
+module _ {h : Head} {t : List ℕ} {rd : Reading} (turn : Turn) (s : Pos) (start : ℕ) (old : List ℕ) (room : Room h t rd (placeGroup h t turn s .dues) start old)
+    (r : Placed) (e : r ≡ placed h t turn s) (line : ℕ) (f : line ≡ r .at) where
   abbrev changes : List Due
-  changes = pageChanges h t (d .«from_kept») (r .changes) (s .page)
+  changes = pageChanges h t (turn .«from_kept») (r .changes) (s .page)
 
   abbrev group : List Due
-  group = dueOf h t (d .group) (d .«from_kept») (r .to .page) line
+  group = dueOf h t (turn .group) (turn .«from_kept») (r .to .page) line
 
-  both : placeGroup h t d s .dues ≡ changes ++ group
-  both = rw f (group-dues h t d s r e)
+  both : placeGroup h t turn s .dues ≡ changes ++ group
+  both = rw f (group-dues h t turn s r e)
 
   pub turn-changes : Room h t rd changes start old
   turn-changes = printing-room (printing-start room) changes group both
 
   module _ (mid : List ℕ) (a : ℕ) (w : Wrote old start (dueBytes h t rd changes) mid a) where
-    after-changes : Printing h t rd old start (placeGroup h t d s .dues) mid a group
+    after-changes : Printing h t rd old start (placeGroup h t turn s .dues) mid a group
     after-changes = printing-on (printing-start room) changes group both w
 
     pub turn-due : Room h t rd group a mid
     turn-due = printing-rest after-changes
 
-    pub turn-printed : (new : List ℕ) (at : ℕ) → Wrote mid a (dueBytes h t rd group) new at → Printed h t rd (placeGroup h t d s) old start new (record { at = at; pos = r .to })
-    turn-printed new at v = record { wrote = printing-last after-changes v; pos = sym (group-to h t d s r e) }
+    pub turn-printed : (new : List ℕ) (at : ℕ) → Wrote mid a (dueBytes h t rd group) new at → Printed h t rd (placeGroup h t turn s) old start new (record { at = at; pos = r .to })
+    turn-printed new at v = record { wrote = printing-last after-changes v; pos = sym (group-to h t turn s r e) }
 
 -- the turns of a plan
 module _ (h : Head) (t : List ℕ) (rd : Reading) (p : Plan) (old : List ℕ) (start : ℕ) (from : Pos) where
@@ -58,16 +58,16 @@ module _ (h : Head) (t : List ℕ) (rd : Reading) (p : Plan) (old : List ℕ) (s
   pass-start r = record { walk = walk-start h t p from; left = printing-start r }
 
   module _ (k : ℕ) (out : List ℕ) (c : Cursor) (g : Pass k out c) where
-    module _ (d : Turn) (l : k < turnCount p) (e : d ≡ turnAt h t p k) where
-      step-dues : ahead h t p k (c .pos) .dues ≡ placeGroup h t d (c .pos) .dues ++ ahead h t p (k + 1) (placeGroup h t d (c .pos) .to) .dues
-      step-dues = ap (λ (x : Laid). x .dues) (ahead-step h t p k (c .pos) d l e)
+    module _ (turn : Turn) (l : k < turnCount p) (e : turn ≡ turnAt h t p k) where
+      step-dues : ahead h t p k (c .pos) .dues ≡ placeGroup h t turn (c .pos) .dues ++ ahead h t p (k + 1) (placeGroup h t turn (c .pos) .to) .dues
+      step-dues = ap (λ (x : Laid). x .dues) (ahead-step h t p k (c .pos) turn l e)
 
-      pub pass-room : Room h t rd (placeGroup h t d (c .pos) .dues) (c .at) out
+      pub pass-room : Room h t rd (placeGroup h t turn (c .pos) .dues) (c .at) out
       pass-room = printing-room (g .left) _ _ step-dues
 
-      pub pass-step : (new : List ℕ) (r : Cursor) → Printed h t rd (placeGroup h t d (c .pos)) out (c .at) new r → Pass (k + 1) new r
+      pub pass-step : (new : List ℕ) (r : Cursor) → Printed h t rd (placeGroup h t turn (c .pos)) out (c .at) new r → Pass (k + 1) new r
       pass-step new r w = record {
-        walk = rw (w .pos) (walk-step h t p from k (c .pos) d (g .walk) l e);
+        walk = rw (w .pos) (walk-step h t p from k (c .pos) turn (g .walk) l e);
         left = rw (w .pos) (printing-on (g .left) _ _ step-dues (w .wrote));
       }
 

@@ -6,8 +6,8 @@ use lib.IntN.{ℤ}
 use Rattle.printed.specs.declared.Prefix.{Prefix}
 use Rattle.printed.specs.Printed.{recordSize}
 use Rattle.tables.specs.declared.Head.{Head}
-use Rattle.compose.specs.declared.View.{View}
-use Rattle.compose.specs.Items.{Inputs, inputs}
+use Rattle.item_text.specs.declared.View.{View}
+use Rattle.item_text.specs.Items.{Inputs, inputs}
 use Rattle.group_text.specs.Groups.{groupBytes}
 use Rattle.layout.specs.Layout.{Due}
 use Rattle.layout.specs.Lines.{lineTotal}

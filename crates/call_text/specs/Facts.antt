@@ -6,11 +6,11 @@ use lib.ListN.{length}
 use Rattle.splice.specs.Splice.{Wrote}
 use Rattle.printed.specs.Printed.{Short}
 use Rattle.tables.specs.declared.Head.{Head}
-use Rattle.compose.specs.declared.View.{View}
-use Rattle.compose.specs.Items.{onPage}
-use Rattle.compose.specs.Facts.{ItemsIn, Readable}
+use Rattle.item_text.specs.declared.View.{View}
+use Rattle.item_text.specs.Items.{onPage}
+use Rattle.line_text.specs.Facts.{ItemsIn, Readable}
 use Rattle.group_text.specs.declared.Print.{Print}
-use Rattle.layout.specs.declared.Start.{Start}
+use Rattle.headings.specs.declared.Start.{Start}
 use Rattle.layout.specs.Layout.{Due, Laid}
 use Rattle.call_text.specs.Bytes.{Reading, inputsOf, dueBytes}
 use Rattle.call_text.specs.declared.Cursor.{Cursor}

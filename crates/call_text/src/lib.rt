@@ -9,10 +9,10 @@ ghost use Rattle.layout.specs.Layout.{dueOf, pageChange, pageChanges, placeGrou
 ghost use Rattle.layout.specs.Facts.{Called, Ready};
 ghost use Rattle.call_text.specs.Bytes.{reading, dueBytes};
 ghost use Rattle.call_text.specs.Facts.{Room, printOf, StartIn, Printed};
-use compose::View;
 use group_text::Print;
+use headings::Start;
+use item_text::View;
 use layout::Pos;
-use layout::Start;
 use plan::Plan;
 use plan::Turn;
 use printed::Prefix;
@@ -62,7 +62,7 @@ pub struct Task {
 fn print_of(v: View, page: u32, s: Start, at: usize) -> Print
     ensures { λ r. ⌜ r ≡ printOf v page s at ⌝ }
 {
-    let first = compose::on_page(v, page, s.at as u64);
+    let first = item_text::on_page(v, page, s.at as u64);
     Print {
         group: s.group,
         first,
@@ -128,8 +128,8 @@ fn print_change<'a>(
     ensures { λ r. ⌜ Wrote (now (out .entry)) (x .at) (dueBytes h (now (t .entry)) (reading (now (lits .entry)) (now (kept .entry)) (now (row .entry)) (now (sums .entry)) (x .view .flag) (x .view .prefix)) (pageChange h (now (t .entry)) (x .view .«from_kept») (x .view .page))) (now (out .exit)) r ⌝ }
 {
     let view = x.view;
-    let footing = layout::page_footing(t, h);
-    let heading = layout::page_heading(t, h);
+    let footing = headings::page_footing(t, h);
+    let heading = headings::page_heading(t, h);
     let pair = Pair {
         one: footing,
         two: heading,
@@ -159,7 +159,7 @@ fn print_changes<'a>(
     let mut page = from.page;
     let mut to = x.at;
     while left > 0 {
-        let view = compose::on_page(from, page, 0);
+        let view = item_text::on_page(from, page, 0);
         let change = Changes {
             count: 1,
             view,
@@ -186,17 +186,17 @@ fn print_turn<'a>(
     requires { ⌜ Ready h (now t) (x .turn) (x .pos) × Room h (now t) (reading (now lits) (now kept) (now row) (now sums) (x .flag) (x .prefix)) (placeGroup h (now t) (x .turn) (x .pos) .dues) (x .at) (now out) ⌝ }
     ensures { λ r. ⌜ Printed h (now (t .entry)) (reading (now (lits .entry)) (now (kept .entry)) (now (row .entry)) (now (sums .entry)) (x .flag) (x .prefix)) (placeGroup h (now (t .entry)) (x .turn) (x .pos)) (now (out .entry)) (x .at) (now (out .exit)) r ⌝ }
 {
-    let d = x.turn;
+    let turn = x.turn;
     let from = x.pos;
     let prefix = x.prefix;
     let view = View {
         page: from.page,
         line: 0,
-        from_kept: d.from_kept,
+        from_kept: turn.from_kept,
         flag: x.flag,
         prefix,
     };
-    let r = layout::place_group(t, h, d, from);
+    let r = layout::place_group(t, h, turn, from);
     let changes = Changes {
         count: r.changes,
         view,
@@ -205,7 +205,7 @@ fn print_turn<'a>(
     let a = print_changes(t, h, lits, kept, row, sums, changes, out);
     let to = r.to;
     let start = Start {
-        group: d.group,
+        group: turn.group,
         at: tables::wide(r.at),
     };
     let group = print_of(view, to.page, start, a);
@@ -269,8 +269,8 @@ fn print_opening<'a>(
     let p = x.plan;
     let prefix = x.prefix;
     if p.opens {
-        let rh = layout::report_heading(t, h);
-        let ph = layout::first_page_heading(t, h);
+        let rh = headings::report_heading(t, h);
+        let ph = headings::first_page_heading(t, h);
         let pos = layout::after_opening(t, h);
         let view = View {
             page: 1,
@@ -311,8 +311,8 @@ fn print_closing<'a>(
     let from = x.pos;
     let prefix = x.prefix;
     if p.closes {
-        let pf = layout::page_footing(t, h);
-        let rf = layout::report_footing(t, h);
+        let pf = headings::page_footing(t, h);
+        let rf = headings::report_footing(t, h);
         let pos = layout::after_closing(t, h, from);
         let view = View {
             page: from.page,

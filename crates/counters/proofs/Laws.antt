@@ -14,13 +14,13 @@ div-none m n p =
     by-test (ltb m n) (λ e. eq-eqb (m / n) 0 (div-eq-of-lt (ltb-true m n e)) ∙ sym e)
     (λ e. ne-eqb (m / n) 0 (λ q. let l : m / n < 1 = omega arith in let k : m < 1 * n = div-lt-iff-lt-mul p .0 l in omega (arith, ltb-false m n e)) ∙ sym e)
 
-below-power : (d m : ℕ) → m < 65536 → ltb m (2 ^ min d 16) ≡ ltb m (2 ^ d)
-below-power d m h =
-    by-test (leb d 16) (λ e. let q : min d 16 ≡ d = omega (arith, leb-true d 16 e) in rw q refl)
+below-power : (details m : ℕ) → m < 65536 → ltb m (2 ^ min details 16) ≡ ltb m (2 ^ details)
+below-power details m h =
+    by-test (leb details 16) (λ e. let q : min details 16 ≡ details = omega (arith, leb-true details 16 e) in rw q refl)
     (λ e.
-    let q : min d 16 ≡ 16 = omega (arith, leb-false d 16 e) in
-    let l : 16 ≤ d = omega (arith, leb-false d 16 e) in
-    rw q (lt-ltb m 65536 h ∙ sym (lt-ltb m (2 ^ d) (lt-of-lt-of-le h (pow-mono l)))))
+    let q : min details 16 ≡ 16 = omega (arith, leb-false details 16 e) in
+    let l : 16 ≤ details = omega (arith, leb-false details 16 e) in
+    rw q (lt-ltb m 65536 h ∙ sym (lt-ltb m (2 ^ details) (lt-of-lt-of-le h (pow-mono l)))))
 
-pub shift-none : (d m : ℕ) → m < 65536 → eqb (m / 2 ^ min d 16) 0 ≡ ltb m (2 ^ d)
-shift-none d m h = div-none m (2 ^ min d 16) (pow-pos (min d 16)) ∙ below-power d m h
+pub shift-none : (details m : ℕ) → m < 65536 → eqb (m / 2 ^ min details 16) 0 ≡ ltb m (2 ^ details)
+shift-none details m h = div-none m (2 ^ min details 16) (pow-pos (min details 16)) ∙ below-power details m h

@@ -7,14 +7,14 @@ use Rattle.tables.specs.declared.Head.{Head}
 use Rattle.tables.specs.Kinds.{kindNumber, addendField, addendCounter}
 use Rattle.tables.specs.Table.{fieldKind, levelOf, counterGroup, addendKind, addendIndex, addendMask}
 
--- "mask nonzero and naming details only": a mask has "bit i for detail i", and there are d details
+-- "mask nonzero and naming details only": a mask has "bit i for detail i", and there are so many details
 abbrev pub maskOk : ℕ → ℕ → Bool
-maskOk d mask = leb 1 mask && ltb mask (2 ^ d)
+maskOk details mask = leb 1 mask && ltb mask (2 ^ details)
 
 -- "Field addends: number fields, mask nonzero and naming details only."
 unfoldable pub fieldAddendOk : Head → List ℕ → ℕ → ℕ → Bool
-fieldAddendOk h t d a =
-    ltb (addendIndex h t a) (h .fields) && eqb (fieldKind t (addendIndex h t a)) kindNumber && maskOk d (addendMask h t a)
+fieldAddendOk h t details a =
+    ltb (addendIndex h t a) (h .fields) && eqb (fieldKind t (addendIndex h t a)) kindNumber && maskOk details (addendMask h t a)
 
 -- the level of counter k's group
 abbrev pub counterLevel : Head → List ℕ → ℕ → ℕ
@@ -33,4 +33,4 @@ counterAddendOk h t k a =
 
 -- addend a of counter k. "An unlisted kind or flag breaks its section's rule".
 unfoldable pub addendOk : Head → List ℕ → ℕ → ℕ → ℕ → Bool
-addendOk h t d k a = cond (eqb (addendKind h t a) addendField) (fieldAddendOk h t d a) (eqb (addendKind h t a) addendCounter && counterAddendOk h t k a)
+addendOk h t details k a = cond (eqb (addendKind h t a) addendField) (fieldAddendOk h t details a) (eqb (addendKind h t a) addendCounter && counterAddendOk h t k a)

@@ -28,17 +28,17 @@ unlikeOwn h t first j i = unlike h t (first + j) (first + i)
 unfoldable pub newAddend : Head → List ℕ → ℕ → ℕ → Bool
 newAddend h t first j = allBelow j (unlikeOwn h t first j)
 
--- addend j of counter k, where there are d details
+-- addend j of counter k, where there are so many details
 unfoldable pub ownAddendOk : Head → List ℕ → ℕ → ℕ → ℕ → Bool
-ownAddendOk h t d k j = addendOk h t d k (firstAddend h t k + j) && newAddend h t (firstAddend h t k) j
+ownAddendOk h t details k j = addendOk h t details k (firstAddend h t k + j) && newAddend h t (firstAddend h t k) j
 
 -- "1 to 8 addends, none with the same kind and index twice"
 unfoldable pub addendsOk : Head → List ℕ → ℕ → ℕ → Bool
-addendsOk h t d k = leb 1 (addendCount h t k) && leb (addendCount h t k) 8 && allBelow (addendCount h t k) (ownAddendOk h t d k)
+addendsOk h t details k = leb 1 (addendCount h t k) && leb (addendCount h t k) 8 && allBelow (addendCount h t k) (ownAddendOk h t details k)
 
 -- counter k
 unfoldable pub counterOk : Head → List ℕ → ℕ → ℕ → Bool
-counterOk h t d k = footingOk h t k && addendsOk h t d k
+counterOk h t details k = footingOk h t k && addendsOk h t details k
 
 -- "1 to 8 addends, .., shared out in order"
 unfoldable pub ruleD8 : Head → List ℕ → Bool

@@ -4,31 +4,31 @@ ghost use Prim.Native.Nat.{_<_};
 ghost use Rattle.counts.specs.Below.{allBelow};
 ghost use Rattle.file.specs.Rule.{ruled};
 ghost use Rattle.file.specs.Number.{Reads};
-ghost use Rattle.lookup.specs.Find.{details};
+ghost use Rattle.lookup.specs.Find.{details as detailsSpec};
 ghost use Rattle.counters.specs.Addends.{maskOk, fieldAddendOk, counterLevel, feeds, counterAddendOk, addendOk};
 ghost use Rattle.counters.specs.Counters.{footingOk, newAddend, addendsOk, counterOk, ruleD8};
 use file::Rule;
 use tables::Head;
 
-// A mask names at least one of `d` details and nothing else. It has 16 bits, so more details than 16 are the same to it.
-fn mask_ok(d: usize, mask: usize) -> bool
+// A mask names at least one of so many details and nothing else. It has 16 bits, so more details than 16 are the same to it.
+fn mask_ok(details: usize, mask: usize) -> bool
     requires { ⌜ mask < 65536 ⌝ }
-    ensures { λ r. ⌜ r ≡ maskOk d mask ⌝ }
+    ensures { λ r. ⌜ r ≡ maskOk details mask ⌝ }
 {
-    let bits = counts::least(d, 16);
+    let bits = counts::least(details, 16);
     (1 <= mask) & (mask >> bits == 0)
 }
 
 // A field addend: a number field, and a mask of details.
-fn field_addend_ok(t: &[u16], h: Head, d: usize, a: usize) -> bool
+fn field_addend_ok(t: &[u16], h: Head, details: usize, a: usize) -> bool
     requires { ⌜ a < 1048576 ⌝ }
-    ensures { λ r. ⌜ r ≡ fieldAddendOk h (now (t .entry)) d a ⌝ }
+    ensures { λ r. ⌜ r ≡ fieldAddendOk h (now (t .entry)) details a ⌝ }
 {
     let index = tables::addend_num(t, h, a, 1);
     let mask = tables::addend_num(t, h, a, 2);
     (index < tables::wide(h.fields))
         & (tables::field_num(t, index, 0) == tables::FIELD_NUMBER)
-        & mask_ok(d, mask)
+        & mask_ok(details, mask)
 }
 
 // The level of a counter's group.
@@ -60,13 +60,13 @@ fn counter_addend_ok(t: &[u16], h: Head, k: usize, a: usize) -> bool
 }
 
 // Addend `a` of counter `k`, by its kind.
-fn addend_ok(t: &[u16], h: Head, d: usize, k: usize, a: usize) -> bool
+fn addend_ok(t: &[u16], h: Head, details: usize, k: usize, a: usize) -> bool
     requires { ⌜ (k < 65536) × (a < 1048576) ⌝ }
-    ensures { λ r. ⌜ r ≡ addendOk h (now (t .entry)) d k a ⌝ }
+    ensures { λ r. ⌜ r ≡ addendOk h (now (t .entry)) details k a ⌝ }
 {
     let kind = tables::addend_num(t, h, a, 0);
     match kind {
-        tables::ADDEND_FIELD => field_addend_ok(t, h, d, a),
+        tables::ADDEND_FIELD => field_addend_ok(t, h, details, a),
         tables::ADDEND_COUNTER => counter_addend_ok(t, h, k, a),
         _ => false,
     }
@@ -93,9 +93,9 @@ fn new_addend(t: &[u16], h: Head, first: usize, j: usize) -> bool
 }
 
 // Every addend of a counter. Of more than 8 none is looked at: nothing has bounded their count yet.
-fn addends_ok(t: &[u16], h: Head, d: usize, k: usize) -> bool
+fn addends_ok(t: &[u16], h: Head, details: usize, k: usize) -> bool
     requires { ⌜ k < 65536 ⌝ }
-    ensures { λ r. ⌜ r ≡ addendsOk h (now (t .entry)) d k ⌝ }
+    ensures { λ r. ⌜ r ≡ addendsOk h (now (t .entry)) details k ⌝ }
 {
     let first = tables::counter_num(t, h, k, 2);
     let n = tables::counter_num(t, h, k, 3);
@@ -105,12 +105,12 @@ fn addends_ok(t: &[u16], h: Head, d: usize, k: usize) -> bool
     }
     // One addend is the common case, and like no other.
     if n == 1 {
-        return addend_ok(t, h, d, k, first);
+        return addend_ok(t, h, details, k, first);
     }
     let mut ok = true;
     let mut j = 0;
     while j < n {
-        let this = addend_ok(t, h, d, k, first + j) & new_addend(t, h, first, j);
+        let this = addend_ok(t, h, details, k, first + j) & new_addend(t, h, first, j);
         ok = ok & this;
         j += 1;
     }
@@ -128,26 +128,26 @@ fn footing_ok(t: &[u16], h: Head, k: usize) -> bool
     (g < tables::wide(h.groups)) & cf & (reset <= tables::group_num(t, h, g, 1))
 }
 
-// Every counter, where there are `d` details.
-fn counters_ok(t: &[u16], h: Head, d: usize) -> bool
-    ensures { λ r. ⌜ r ≡ allBelow (h .counters) (counterOk h (now (t .entry)) d) ⌝ }
+// Every counter, where there are so many details.
+fn counters_ok(t: &[u16], h: Head, details: usize) -> bool
+    ensures { λ r. ⌜ r ≡ allBelow (h .counters) (counterOk h (now (t .entry)) details) ⌝ }
 {
     let n = tables::wide(h.counters);
     let mut ok = true;
     let mut k = 0;
     while k < n {
-        let this = footing_ok(t, h, k) & addends_ok(t, h, d, k);
+        let this = footing_ok(t, h, k) & addends_ok(t, h, details, k);
         ok = ok & this;
         k += 1;
     }
     ok
 }
 
-// D8, where there are `d` details.
-pub fn rule_d8(t: &[u16], h: Head, d: usize) -> Rule
-    requires { ⌜ d ≡ details h (now t) ⌝ }
+// D8, where there are so many details.
+pub fn rule_d8(t: &[u16], h: Head, details: usize) -> Rule
+    requires { ⌜ details ≡ detailsSpec h (now t) ⌝ }
     ensures { λ r. ⌜ r ≡ ruled (ruleD8 h (now (t .entry))) ⌝ }
 {
-    let each = counters_ok(t, h, d);
+    let each = counters_ok(t, h, details);
     file::rule_of(each & lookup::shared_out(t, h, tables::COUNTERS))
 }

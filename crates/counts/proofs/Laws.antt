@@ -1,10 +1,11 @@
 -- Laws of `allBelow`, `sumBelow`, `firstBelow`, `foldBelow`, `listBelow` and `joinBelow`: what loops show, and what a passed test says at an index.
---     all-next    one turn of a loop that keeps a flag
+--     all-next    one turn of a loop that keeps a flag; all-start, all-step, all-end   the whole loop
 --     all-at      an index of a test that passed
 --     sum-next    one turn of a running total
---     first-next, first-found   one turn of a search, and its find
+--     first-next, first-found   one turn of a search, and its find; search-start, search-step, search-end   the whole of it
+--     search-some, search-none  whether it found one
 --     first-at, first-upto      the index found passes, and none before it does
---     fold-next   one turn of a fold
+--     fold-next   one turn of a fold; fold-keeps   what every turn keeps
 --     list-at, list-filled      an entry of a list made of f, and a list that has f at each index
 --     join-at     an entry of a join, by the lengths of its lists
 --     join-list   the parts of one list, joined
@@ -16,7 +17,7 @@ use lib.Seq.{ext-getD, getD-append-add}
 use mathlib.Core.Logic.{⊎-elim}
 use mathlib.Core.Bool.{Bool, true, false, cond, _&&_, _||_, false≢true}
 use Prim.Native.Nat.{ℕ, zero, suc, _+_, _*_, _≤_, _<_}
-use native.Mathlib.Nat.{le-of-suc-le-suc, not-suc-le-zero, eq-or-lt-of-le, zero-add, suc-add, mul-suc}
+use native.Mathlib.Nat.{le-of-suc-le-suc, not-suc-le-zero, eq-or-lt-of-le, le-antisymm, zero-add, suc-add, mul-suc}
 use native.Mathlib.Numerals.{add-one}
 use native.Mathlib.Omega.{arith}
 use lib.Dec.{ltb}
@@ -50,6 +51,17 @@ module _ (p : ℕ → Bool) where
   unfolding allBelow
   all-next i e h = rw (add-one, e, h) refl
 
+  -- a loop that keeps a flag, i of n turns passed: where it starts, one turn, where it ends
+  pub all-start : (n : ℕ) → (0 ≤ n) × (true ≡ allBelow 0 p)
+  unfolding allBelow
+  all-start n = (omega arith, refl)
+
+  pub all-step : {i n : ℕ} {b t : Bool} → (i ≤ n) × (b ≡ allBelow i p) → i < n → t ≡ p i → (i + 1 ≤ n) × ((b && t) ≡ allBelow (i + 1) p)
+  all-step {i} h l e = (omega arith, all-next i (h .1) e)
+
+  pub all-end : {i n m : ℕ} {b : Bool} → (i ≤ n) × (b ≡ allBelow i p) → n ≤ i → n ≡ m → b ≡ allBelow m p
+  all-end h l q = rw (le-antisymm (h .0) l, q) at (h .1)
+
   pub all-at : (i n : ℕ) → i < n → allBelow n p ≡ true → p i ≡ true
   unfolding allBelow
   all-at i zero h e = absurd (not-suc-le-zero h)
@@ -70,6 +82,24 @@ module _ (p : ℕ → Bool) where
 
   pub first-found : {i n m : ℕ} {b : Bool} → i < n → n ≡ m → i ≡ firstBelow i p → b ≡ p i → b ≡ true → i ≡ firstBelow m p
   first-found {i} {n} l q e h t = rw q at (first-stop i n l e (sym h ∙ t))
+
+  -- a search, i of n turns passed: where it starts, one turn, where it ends
+  pub search-start : (n : ℕ) → (0 ≤ n) × (0 ≡ firstBelow 0 p)
+  unfolding firstBelow
+  search-start n = (omega arith, refl)
+
+  pub search-step : {i n : ℕ} {b : Bool} → (i ≤ n) × (i ≡ firstBelow i p) → i < n → b ≡ p i → b ≡ false → (i + 1 ≤ n) × (i + 1 ≡ firstBelow (i + 1) p)
+  search-step {i} h l e f = (omega arith, first-next i (h .1) e f)
+
+  pub search-end : {i n m : ℕ} → (i ≤ n) × (i ≡ firstBelow i p) → n ≤ i → n ≡ m → i ≡ firstBelow m p
+  search-end h l q = rw (← q, ← le-antisymm (h .0) l) (h .1)
+
+  -- whether it found one
+  pub search-some : {i n m : ℕ} {b : Bool} → i < n → n ≡ m → i ≡ firstBelow i p → b ≡ p i → b ≡ true → true ≡ ltb (firstBelow m p) m
+  search-some l q e h t = rw (← first-found l q e h t, ← q) (sym (lt-ltb _ _ l))
+
+  pub search-none : {i n m : ℕ} → (i ≤ n) × (i ≡ firstBelow i p) → n ≤ i → n ≡ m → false ≡ ltb (firstBelow m p) m
+  search-none h l q = rw (← search-end h l q, ← q) (sym (le-ltb _ _ l))
 
   first-step : (n f : ℕ) (a b : Bool) → ltb f n ≡ a → p n ≡ b → (f < n → p f ≡ true) → cond a f (cond b n (suc n)) < suc n → p (cond a f (cond b n (suc n))) ≡ true
   first-step n f true b e g h l = h (ltb-true f n e)
@@ -124,6 +154,12 @@ sum-same c (suc n) = let e = sum-same c n in omega (arith, mul-suc c n)
 pub fold-next : {A : Type 0} (f : ℕ → A → A) (i : ℕ) (a : A) {s r : A} → s ≡ foldBelow i f a → r ≡ f i s → r ≡ foldBelow (i + 1) f a
 unfolding foldBelow
 fold-next f i a e h = rw (add-one, ← e) h
+
+-- what every turn keeps, a fold keeps
+pub fold-keeps : {A : Type 0} (f : ℕ → A → A) (P : A → Type 0) (n : ℕ) → ((k : ℕ) (a : A) → k < n → P a → P (f k a)) → {a : A} → P a → P (foldBelow n f a)
+unfolding foldBelow
+fold-keeps f P zero h p = p
+fold-keeps f P (suc n) h {a} p = h n (foldBelow n f a) (omega arith) (fold-keeps f P n (λ k b l. h k b (omega arith)) p)
 
 -- lists made of f
 

@@ -5,7 +5,7 @@ use mathlib.Core.Path.{_≡_, refl}
 use mathlib.Core.List.{List}
 use Rattle.tables.specs.declared.Head.{Head}
 use Rattle.printed.specs.Printed.{noPrefix}
-use Rattle.compose.specs.Facts.{ItemsIn}
+use Rattle.line_text.specs.Facts.{ItemsIn}
 use Rattle.call_text.proofs.Bytes.{GroupsIn, in-layout}
 use Rattle.accepted.specs.Accepted.{Accepted}
 use Rattle.state.specs.declared.State.{State}

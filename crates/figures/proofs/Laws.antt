@@ -76,35 +76,35 @@ places-next k n l h b =
 
 -- the text of a number
 
-module _ (n d : ℕ) where
-  pub fraction-none : d ≤ 0 → fraction d n ≡ []
+module _ (n decimals : ℕ) where
+  pub fraction-none : decimals ≤ 0 → fraction decimals n ≡ []
   unfolding fraction
-  fraction-none h = rw (eq-eqb d 0 (omega arith)) refl
+  fraction-none h = rw (eq-eqb decimals 0 (omega arith)) refl
 
-  pub fraction-some : 0 < d → fraction d n ≡ 46 ∷ digits d n
+  pub fraction-some : 0 < decimals → fraction decimals n ≡ 46 ∷ digits decimals n
   unfolding fraction
-  fraction-some h = rw (ne-eqb d 0 (λ e. omega arith)) refl
+  fraction-some h = rw (ne-eqb decimals 0 (λ e. omega arith)) refl
 
-  length-cond : (b : Bool) → length (cond b [] (46 ∷ digits d n)) ≡ cond b 0 (1 + d)
+  length-cond : (b : Bool) → length (cond b [] (46 ∷ digits decimals n)) ≡ cond b 0 (1 + decimals)
   length-cond true = refl
-  length-cond false = omega (arith, length-digits d n)
+  length-cond false = omega (arith, length-digits decimals n)
 
-  pub length-fraction : length (fraction d n) ≡ fractionLength d
+  pub length-fraction : length (fraction decimals n) ≡ fractionLength decimals
   unfolding fraction
-  length-fraction = length-cond (eqb d 0)
+  length-fraction = length-cond (eqb decimals 0)
 
-  module _ (negative : Bool) (w : ℕ) (e : w ≡ n / 10 ^ d) where
+  module _ (negative : Bool) (w : ℕ) (e : w ≡ n / 10 ^ decimals) where
     -- in its parts; w is the whole part
-    pub signedText-parts : signedText negative n d ≡ sign negative ++ (digits (places w) w ++ fraction d n)
+    pub signedText-parts : signedText negative n decimals ≡ sign negative ++ (digits (places w) w ++ fraction decimals n)
     unfolding signedText plain
     signedText-parts = rw e refl
 
-    pub length-signedText : length (signedText negative n d) ≡ length (sign negative) + (places w + fractionLength d)
+    pub length-signedText : length (signedText negative n decimals) ≡ length (sign negative) + (places w + fractionLength decimals)
     length-signedText = ap length signedText-parts ∙ simp (length-append, length-digits, length-fraction)
 
-pub fractionLength-le : (d : ℕ) → fractionLength d ≤ 1 + d
-fractionLength-le d = by (eqb d 0) where
-  by : (b : Bool) → cond b 0 (1 + d) ≤ 1 + d
+pub fractionLength-le : (decimals : ℕ) → fractionLength decimals ≤ 1 + decimals
+fractionLength-le decimals = by (eqb decimals 0) where
+  by : (b : Bool) → cond b 0 (1 + decimals) ≤ 1 + decimals
   by true = omega arith
   by false = omega arith
 
@@ -145,6 +145,6 @@ module _ (w : ℕ) (t : List ℕ) where
   unfolding alignLeft
   length-alignLeft = simp (length-append, length-take, length-replicate) (omega arith)
 
-pub length-numberField : (z : ℤ) (d w : ℕ) → length (numberField z d w) ≡ w
+pub length-numberField : (z : ℤ) (decimals w : ℕ) → length (numberField z decimals w) ≡ w
 unfolding numberField
-length-numberField z d w = length-alignRight w _
+length-numberField z decimals w = length-alignRight w _

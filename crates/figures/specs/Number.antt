@@ -20,17 +20,17 @@ placesIn (suc f) n = cond (ltb n 10) 1 (placesIn f (n / 10) + 1)
 unfoldable pub places : ℕ → ℕ
 places n = placesIn 19 n
 
--- the point and the last d digits of n, or nothing where d is 0
+-- the point and the decimals, the last digits of n; nothing where there are none
 unfoldable pub fraction : ℕ → ℕ → List ℕ
-fraction d n = cond (eqb d 0) [] (46 ∷ digits d n)
+fraction decimals n = cond (eqb decimals 0) [] (46 ∷ digits decimals n)
 
 -- how long that is
 abbrev pub fractionLength : ℕ → ℕ
-fractionLength d = cond (eqb d 0) 0 (1 + d)
+fractionLength decimals = cond (eqb decimals 0) 0 (1 + decimals)
 
--- "no leading zeros, at least one digit before the point": n with its last d digits behind the point
+-- "no leading zeros, at least one digit before the point": n with its decimals behind the point
 unfoldable pub plain : ℕ → ℕ → List ℕ
-plain n d = digits (places (n / 10 ^ d)) (n / 10 ^ d) ++ fraction d n
+plain n decimals = digits (places (n / 10 ^ decimals)) (n / 10 ^ decimals) ++ fraction decimals n
 
 -- "'-' in front when negative"
 abbrev pub sign : Bool → List ℕ
@@ -38,7 +38,7 @@ sign negative = cond negative (45 ∷ []) []
 
 -- the sign, and the digits
 unfoldable pub signedText : Bool → ℕ → ℕ → List ℕ
-signedText negative n d = sign negative ++ plain n d
+signedText negative n decimals = sign negative ++ plain n decimals
 
 -- "Numbers are right-aligned .. ; too wide, the item is all '*'."
 unfoldable pub alignRight : ℕ → List ℕ → List ℕ
@@ -49,9 +49,9 @@ abbrev pub isNegative : ℤ → Bool
 isNegative (pos n) = false
 isNegative (negsuc n) = true
 
--- the w bytes of a number item with d decimals
+-- the w bytes of a number item with so many decimals
 unfoldable pub numberField : ℤ → ℕ → ℕ → List ℕ
-numberField z d w = alignRight w (signedText (isNegative z) (natAbs z) d)
+numberField z decimals w = alignRight w (signedText (isNegative z) (natAbs z) decimals)
 
 -- "Text is left-aligned, cut or padded.": the w bytes of a text item
 unfoldable pub alignLeft : ℕ → List ℕ → List ℕ

@@ -5,13 +5,13 @@ ghost use lib.ListN.{length};
 ghost use Rattle.splice.specs.Splice.{splice, Wrote};
 ghost use Rattle.figures.specs.Number.{digits, places as Number·places, fraction, sign, signedText, fractionLength, alignRight, alignLeft, numberField};
 
-// Puts the number v, its last d digits behind a point, right-aligned into w bytes.
-pub fn put_number(v: i64, d: usize, w: usize, at: usize, out: &mut [u8])
-    requires { ⌜ (d ≤ 4) × (at + w ≤ length (now out)) ⌝ }
-    ensures { λ _. ⌜ now (out .exit) ≡ splice (now (out .entry)) at (numberField v d w) ⌝ }
+// Puts the number v, its decimals behind a point, right-aligned into w bytes.
+pub fn put_number(v: i64, decimals: usize, w: usize, at: usize, out: &mut [u8])
+    requires { ⌜ (decimals ≤ 4) × (at + w ≤ length (now out)) ⌝ }
+    ensures { λ _. ⌜ now (out .exit) ≡ splice (now (out .entry)) at (numberField v decimals w) ⌝ }
 {
     let n = number::signed::magnitude(v);
-    put_signed(v < 0, n, d, w, at, out);
+    put_signed(v < 0, n, decimals, w, at, out);
 }
 
 // Puts text left-aligned into w bytes, cut or padded with blanks.
@@ -43,46 +43,46 @@ pub fn spell(n: u64, k: usize, at: usize, out: &mut [u8])
 }
 
 // Puts a sign and a magnitude right-aligned into w bytes, or '*' where they are too wide.
-fn put_signed(negative: bool, n: u64, d: usize, w: usize, at: usize, out: &mut [u8])
-    requires { ⌜ (d ≤ 4) × (at + w ≤ length (now out)) ⌝ }
-    ensures { λ _. ⌜ now (out .exit) ≡ splice (now (out .entry)) at (alignRight w (signedText negative n d)) ⌝ }
+fn put_signed(negative: bool, n: u64, decimals: usize, w: usize, at: usize, out: &mut [u8])
+    requires { ⌜ (decimals ≤ 4) × (at + w ≤ length (now out)) ⌝ }
+    ensures { λ _. ⌜ now (out .exit) ≡ splice (now (out .entry)) at (alignRight w (signedText negative n decimals)) ⌝ }
 {
-    let whole = whole_part(n, d);
+    let whole = whole_part(n, decimals);
     let k = places(whole);
-    let len = text_len(negative, k, d);
+    let len = text_len(negative, k, decimals);
     if w < len {
         splice::fill(b'*', w, at, out);
     } else {
         let gap = w - len;
         splice::fill(b' ', gap, at, out);
-        put_exact(negative, whole, k, n, d, at + gap, out);
+        put_exact(negative, whole, k, n, decimals, at + gap, out);
     }
 }
 
-// How many bytes a sign, k digits, a point and d digits take.
-fn text_len(negative: bool, k: usize, d: usize) -> usize
-    requires { ⌜ (k ≤ 20) × (d ≤ 4) ⌝ }
-    ensures { λ r. ⌜ r ≡ length (sign negative) + (k + fractionLength d) ⌝ }
+// How many bytes a sign, k digits, a point and the decimals take.
+fn text_len(negative: bool, k: usize, decimals: usize) -> usize
+    requires { ⌜ (k ≤ 20) × (decimals ≤ 4) ⌝ }
+    ensures { λ r. ⌜ r ≡ length (sign negative) + (k + fractionLength decimals) ⌝ }
 {
-    let len = plain_len(k, d);
+    let len = plain_len(k, decimals);
     if negative { len + 1 } else { len }
 }
 
-// How many bytes k digits, a point and d digits take.
-fn plain_len(k: usize, d: usize) -> usize
-    requires { ⌜ (k ≤ 20) × (d ≤ 4) ⌝ }
-    ensures { λ r. ⌜ r ≡ k + fractionLength d ⌝ }
+// How many bytes k digits, a point and the decimals take.
+fn plain_len(k: usize, decimals: usize) -> usize
+    requires { ⌜ (k ≤ 20) × (decimals ≤ 4) ⌝ }
+    ensures { λ r. ⌜ r ≡ k + fractionLength decimals ⌝ }
 {
-    if d > 0 { k + 1 + d } else { k }
+    if decimals > 0 { k + 1 + decimals } else { k }
 }
 
-// n without its last d digits.
-fn whole_part(n: u64, d: usize) -> u64
-    ensures { λ r. ⌜ r ≡ n / 10 ^ d ⌝ }
+// n without its decimals.
+fn whole_part(n: u64, decimals: usize) -> u64
+    ensures { λ r. ⌜ r ≡ n / 10 ^ decimals ⌝ }
 {
     let mut rest = n;
     let mut k = 0;
-    while k < d {
+    while k < decimals {
         rest /= 10;
         k += 1;
     }
@@ -103,13 +103,21 @@ fn places(n: u64) -> usize
 }
 
 // Puts the sign, the k digits of the whole part of n, and its fraction.
-fn put_exact(negative: bool, whole: u64, k: usize, n: u64, d: usize, at: usize, out: &mut [u8])
-    requires { ⌜ (whole ≡ n / 10 ^ d) × (k ≡ Number·places whole) × (at + length (signedText negative n d) ≤ length (now out)) ⌝ }
-    ensures { λ _. ⌜ now (out .exit) ≡ splice (now (out .entry)) at (signedText negative n d) ⌝ }
+fn put_exact(
+    negative: bool,
+    whole: u64,
+    k: usize,
+    n: u64,
+    decimals: usize,
+    at: usize,
+    out: &mut [u8],
+)
+    requires { ⌜ (whole ≡ n / 10 ^ decimals) × (k ≡ Number·places whole) × (at + length (signedText negative n decimals) ≤ length (now out)) ⌝ }
+    ensures { λ _. ⌜ now (out .exit) ≡ splice (now (out .entry)) at (signedText negative n decimals) ⌝ }
 {
     let to = put_sign(negative, at, out);
     spell(whole, k, to, out);
-    put_fraction(n, d, to + k, out);
+    put_fraction(n, decimals, to + k, out);
 }
 
 // Puts '-' where the number is negative, and gives the offset behind it.
@@ -125,13 +133,13 @@ fn put_sign(negative: bool, at: usize, out: &mut [u8]) -> usize
     }
 }
 
-// Puts the point and the last d digits of n, or nothing where d is 0.
-fn put_fraction(n: u64, d: usize, at: usize, out: &mut [u8])
-    requires { ⌜ at + length (fraction d n) ≤ length (now out) ⌝ }
-    ensures { λ _. ⌜ now (out .exit) ≡ splice (now (out .entry)) at (fraction d n) ⌝ }
+// Puts the point and the decimals of n; nothing where there are none.
+fn put_fraction(n: u64, decimals: usize, at: usize, out: &mut [u8])
+    requires { ⌜ at + length (fraction decimals n) ≤ length (now out) ⌝ }
+    ensures { λ _. ⌜ now (out .exit) ≡ splice (now (out .entry)) at (fraction decimals n) ⌝ }
 {
-    if d > 0 {
+    if decimals > 0 {
         splice::fill(b'.', 1, at, out);
-        spell(n, d, at + 1, out);
+        spell(n, decimals, at + 1, out);
     }
 }

@@ -6,15 +6,15 @@ use mathlib.Core.Bool.{Bool, true}
 use mathlib.Core.List.{List}
 use lib.Dec.{eqb}
 use lib.IntN.{ℤ, pos}
-use Rattle.counts.proofs.Laws.{by-cond}
+use Rattle.counts.proofs.Laws.{by-cond, fold-keeps}
 use Rattle.tables.specs.declared.Head.{Head}
 use Rattle.tables.specs.Table.{counterGroup}
 use Rattle.sums.specs.declared.Totals.{Totals}
 use Rattle.sums.specs.Sums.{totals, sumsOk, put}
 use Rattle.sums.specs.Facts.{InRange}
-use Rattle.sums.proofs.Folds.{fold-keeps}
 use Rattle.sums.proofs.Range.{sums-set}
-use Rattle.rolling.proofs.Kept.{Adds, range-adds, cross-keeps, roll-keeps}
+use Rattle.sums.proofs.Kept.{Adds, range-adds}
+use Rattle.rolling.proofs.Kept.{cross-keeps, roll-keeps}
 use Rattle.footing.specs.declared.Step.{Step}
 use Rattle.footing.specs.declared.Step.the-variants.{Crossfoot, RollUp, Show, Reset}
 use Rattle.footing.specs.Footing.{showCounter, resets, resetCounter, stepOf, atOwn, eachOwn, footing}

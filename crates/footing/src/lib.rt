@@ -2,6 +2,7 @@
 ghost use mathlib.Core.Path.{_≡_};
 ghost use mathlib.Core.Bool.{true};
 ghost use Prim.Native.Nat.{_<_};
+ghost use Rattle.file.specs.Limits.{countersMax};
 ghost use Rattle.sums.specs.Sums.{totals, sumsOk, Does};
 ghost use Rattle.sums.specs.Facts.{CountersIn};
 ghost use Rattle.footing.specs.Footing.{showCounter, resetCounter, stepOf, atOwn, eachOwn, footing as footingSpec};
@@ -28,7 +29,7 @@ fn show_counter(
     sums: &[i64; file::COUNTERS_MAX],
     shown: &mut [i64; file::COUNTERS_MAX],
 )
-    requires { ⌜ k < 32 ⌝ }
+    requires { ⌜ k < countersMax ⌝ }
     ensures { λ _. ⌜ totals ok (now (sums .entry)) (now (shown .exit)) ≡ showCounter k (totals ok (now (sums .entry)) (now (shown .entry))) ⌝ }
 {
     let x = sums[k];
@@ -43,7 +44,7 @@ fn reset_counter(
     ok: bool,
     sums: &mut [i64; file::COUNTERS_MAX],
 )
-    requires { ⌜ k < 32 ⌝ }
+    requires { ⌜ k < countersMax ⌝ }
     ensures { λ _. ⌜ Does (resetCounter h (now (t .entry)) b k) ok (now (sums .entry)) ok (now (sums .exit)) ⌝ }
 {
     let level = tables::counter_num(t, h, k, 1);

@@ -9,10 +9,10 @@ use Rattle.printed.specs.Printed.{Short, recordSize}
 use Rattle.tables.specs.declared.Head.{Head}
 use Rattle.tables.specs.Table.{firstLine, lineCount}
 use Rattle.lines.specs.Lines.{lineNumber}
-use Rattle.compose.specs.declared.View.{View}
-use Rattle.compose.specs.Items.{Inputs, onLine}
-use Rattle.compose.specs.Facts.{LineIn, ItemsIn}
-use Rattle.compose.proofs.Lines.{length-lineBytes}
+use Rattle.item_text.specs.declared.View.{View}
+use Rattle.item_text.specs.Items.{Inputs, onLine}
+use Rattle.line_text.specs.Facts.{LineIn, ItemsIn}
+use Rattle.line_text.proofs.Lines.{length-lineBytes}
 use Rattle.group_text.specs.Groups.{joinFrom, ownBytes, groupBytes}
 
 module _ (f : ℕ → List ℕ) where

@@ -3,9 +3,9 @@ use Prim.Native.Nat.{ℕ, _<_}
 use mathlib.Core.List.{List}
 use Rattle.printed.specs.Printed.{Short}
 use Rattle.tables.specs.declared.Head.{Head}
-use Rattle.compose.specs.declared.View.{View}
-use Rattle.compose.specs.Items.{Inputs}
-use Rattle.compose.specs.Facts.{ItemsIn, Readable}
+use Rattle.item_text.specs.declared.View.{View}
+use Rattle.item_text.specs.Items.{Inputs}
+use Rattle.line_text.specs.Facts.{ItemsIn, Readable}
 
 -- group g can be printed from a line of a page on
 pub record GroupReady (h : Head) (t : List ℕ) (inp : Inputs) (v : View) (g : ℕ) : Type 0 where

@@ -4,9 +4,9 @@ use mathlib.Core.List.{List, [], _++_}
 use Rattle.tables.specs.declared.Head.{Head}
 use Rattle.tables.specs.Table.{firstLine, lineCount}
 use Rattle.lines.specs.Lines.{lineNumber}
-use Rattle.compose.specs.declared.View.{View}
-use Rattle.compose.specs.Items.{Inputs, onLine}
-use Rattle.compose.specs.Lines.{lineBytes}
+use Rattle.item_text.specs.declared.View.{View}
+use Rattle.item_text.specs.Items.{Inputs, onLine}
+use Rattle.line_text.specs.Lines.{lineBytes}
 
 -- f at n indexes from k on, joined
 unfoldable pub joinFrom : ℕ → ℕ → (ℕ → List ℕ) → List ℕ

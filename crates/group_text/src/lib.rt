@@ -2,11 +2,11 @@
 ghost use Prim.Native.Nat.{_+_, _≤_};
 ghost use lib.ListN.{length};
 ghost use Rattle.splice.specs.Splice.{Wrote};
-ghost use Rattle.compose.specs.Items.{inputs};
+ghost use Rattle.item_text.specs.Items.{inputs};
 ghost use Rattle.group_text.specs.Groups.{groupBytes};
 ghost use Rattle.group_text.specs.Facts.{GroupReady};
-use compose::Line;
-use compose::View;
+use item_text::View;
+use line_text::Line;
 use tables::Head;
 
 // A group to print: which one, the view of its first line, and the offset in the output.
@@ -38,13 +38,13 @@ pub fn print_group<'a>(
     let mut k = 0;
     while k < n {
         let from = p.first;
-        let view = compose::on_line(from, line);
+        let view = item_text::on_line(from, line);
         let x = Line {
             index: start + k,
             view,
             at: to,
         };
-        to = compose::put_line(t, h, lits, kept, row, sums, x, out);
+        to = line_text::put_line(t, h, lits, kept, row, sums, x, out);
         line += tables::line_num(t, h, start + 1 + k, 1) as u64;
         k += 1;
     }

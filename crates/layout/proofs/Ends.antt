@@ -10,10 +10,10 @@ use Rattle.lookup.specs.Find.{theGroup}
 use Rattle.fits.specs.Starts.{aboveHead, lastFrom, headEnd, footEnd}
 use Rattle.shape.specs.Facts.{Small}
 use Rattle.shape.proofs.Reach.{line-le}
+use Rattle.headings.specs.declared.Start.{Start}
+use Rattle.headings.specs.Headings.{startAt}
 use Rattle.layout.specs.declared.Pos.{Pos}
-use Rattle.layout.specs.declared.Start.{Start}
 use Rattle.layout.specs.Layout.{lineAfter, opening, afterFooting, footingPage, closing}
-use Rattle.layout.specs.Facts.{startAt}
 
 module _ (h : Head) (t : List ℕ) (small : Small h t) where
   pub head-end-le : headEnd h t ≤ 3483

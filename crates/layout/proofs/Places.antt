@@ -75,8 +75,8 @@ module _ (h : Head) (t : List ℕ) (small : Small h t) (g : ℕ) (e : present h 
       let r = lands-le (frameOf h t) (span h t g) (lowOf h t g) 65535 (asFirst (kindOf h t g) (firstInt h t g)) s (omega (arith, small .fd)) (rw i (omega arith)) w in
       omega arith
 
-pub placed-from : (h : Head) (t : List ℕ) (d : Turn) (s : Pos) (f : Frame) (b : Body) (l : Landing) (n : Next) (u : Spot) → f ≡ frameOf h t
-    → b ≡ bodyOf h t (d .group) → l ≡ landing f b (s .spot) → n ≡ nextFor h t d → u ≡ followed (h .ft) n (l .at + b .span) (l .spot .saved)
-    → _≡_ {A = Placed} (record { changes = l .changes; at = l .at; to = record { page = s .page + l .changes; spot = u } }) (placedLines h t d s)
+pub placed-from : (h : Head) (t : List ℕ) (turn : Turn) (s : Pos) (f : Frame) (b : Body) (l : Landing) (n : Next) (u : Spot) → f ≡ frameOf h t
+    → b ≡ bodyOf h t (turn .group) → l ≡ landing f b (s .spot) → n ≡ nextFor h t turn → u ≡ followed (h .ft) n (l .at + b .span) (l .spot .saved)
+    → _≡_ {A = Placed} (record { changes = l .changes; at = l .at; to = record { page = s .page + l .changes; spot = u } }) (placedLines h t turn s)
 unfolding placedLines bodyOf
-placed-from h t d s f b l n u ef eb el en eu = rw (eu, en, el, eb, ef) refl
+placed-from h t turn s f b l n u ef eb el en eu = rw (eu, en, el, eb, ef) refl

@@ -29,13 +29,13 @@ module _ (h : Head) (t : List ℕ) where
   pub place-append : (ds es : List Turn) (s : Pos) → placeAll h t (ds ++ es) s ≡ andThen (placeAll h t ds s) (placeAll h t es (placeAll h t ds s .to))
   unfolding placeAll
   place-append [] es s = refl
-  place-append (d ∷ ds) es s =
-      rw (place-append ds es (placeGroup h t d s .to))
-      (ap (λ (us : List Due). record { dues = us; to = placeAll h t es (placeAll h t ds (placeGroup h t d s .to) .to) .to }) (sym (append-assoc (placeGroup h t d s .dues) _ _)))
+  place-append (turn ∷ ds) es s =
+      rw (place-append ds es (placeGroup h t turn s .to))
+      (ap (λ (us : List Due). record { dues = us; to = placeAll h t es (placeAll h t ds (placeGroup h t turn s .to) .to) .to }) (sym (append-assoc (placeGroup h t turn s .dues) _ _)))
 
-  pub place-step : (ds es : List Turn) (d : Turn) (s : Pos) → ds ≡ d ∷ es → placeAll h t ds s ≡ andThen (placeGroup h t d s) (placeAll h t es (placeGroup h t d s .to))
+  pub place-step : (ds es : List Turn) (turn : Turn) (s : Pos) → ds ≡ turn ∷ es → placeAll h t ds s ≡ andThen (placeGroup h t turn s) (placeAll h t es (placeGroup h t turn s .to))
   unfolding placeAll
-  place-step ds es d s e = rw e refl
+  place-step ds es turn s e = rw e refl
 
   pub place-end : (ds : List Turn) (s : Pos) → ds ≡ [] → placeAll h t ds s ≡ record { dues = []; to = s }
   unfolding placeAll
@@ -53,25 +53,25 @@ module _ (h : Head) (t : List ℕ) where
   change-end fromKept (suc n) page l = absurd (omega arith)
 
   -- a turn makes at most two page changes, and ends on the page that they reach
-  pub group-changes : (d : Turn) (s : Pos) → placed h t d s .changes ≤ 2
+  pub group-changes : (turn : Turn) (s : Pos) → placed h t turn s .changes ≤ 2
   unfolding placed placedLines
-  group-changes d s =
-      by-cond (λ (r : Placed). r .changes ≤ 2) (present h t (d .group))
-      (λ e. at-most-two (frameOf h t) (bodyOf h t (d .group)) (s .spot))
+  group-changes turn s =
+      by-cond (λ (r : Placed). r .changes ≤ 2) (present h t (turn .group))
+      (λ e. at-most-two (frameOf h t) (bodyOf h t (turn .group)) (s .spot))
       (λ e. omega arith)
 
-  pub group-page : (d : Turn) (s : Pos) → placed h t d s .to .page ≡ s .page + placed h t d s .changes
+  pub group-page : (turn : Turn) (s : Pos) → placed h t turn s .to .page ≡ s .page + placed h t turn s .changes
   unfolding placed placedLines
-  group-page d s = by-cond (λ (r : Placed). r .to .page ≡ s .page + r .changes) (present h t (d .group)) (λ e. refl) (λ e. omega arith)
+  group-page turn s = by-cond (λ (r : Placed). r .to .page ≡ s .page + r .changes) (present h t (turn .group)) (λ e. refl) (λ e. omega arith)
 
-  pub group-near : (d : Turn) (s : Pos) → placeGroup h t d s .to .page ≤ s .page + 2
+  pub group-near : (turn : Turn) (s : Pos) → placeGroup h t turn s .to .page ≤ s .page + 2
   unfolding placeGroup
-  group-near d s = omega (arith, group-page d s, group-changes d s)
+  group-near turn s = omega (arith, group-page turn s, group-changes turn s)
 
   pub place-page : (ds : List Turn) (s : Pos) → placeAll h t ds s .to .page ≤ s .page + 2 * length ds
   unfolding placeAll
   place-page [] s = omega arith
-  place-page (d ∷ ds) s = let n = group-near d s in let e = place-page ds (placeGroup h t d s .to) in omega arith
+  place-page (turn ∷ ds) s = let n = group-near turn s in let e = place-page ds (placeGroup h t turn s .to) in omega arith
 
   module _ (p : Plan) (s : Pos) where
     -- the place after the opening, and after the body groups

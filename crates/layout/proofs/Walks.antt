@@ -21,8 +21,8 @@ module _ (h : Head) (t : List ℕ) (p : Plan) where
   abbrev pub ahead : ℕ → Pos → Laid
   ahead k s = placeAll h t (drop k (turns h t p)) s
 
-  pub ahead-step : (k : ℕ) (s : Pos) (d : Turn) → k < turnCount p → d ≡ turnAt h t p k → ahead k s ≡ andThen (placeGroup h t d s) (ahead (k + 1) (placeGroup h t d s .to))
-  ahead-step k s d l e = place-step h t _ _ d s (rw e (turns-step h t p k l))
+  pub ahead-step : (k : ℕ) (s : Pos) (turn : Turn) → k < turnCount p → turn ≡ turnAt h t p k → ahead k s ≡ andThen (placeGroup h t turn s) (ahead (k + 1) (placeGroup h t turn s .to))
+  ahead-step k s turn l e = place-step h t _ _ turn s (rw e (turns-step h t p k l))
 
   pub ahead-end : (k : ℕ) (s : Pos) → turnCount p ≤ k → ahead k s ≡ record { dues = []; to = s }
   ahead-end k s l = place-end h t _ s (turns-end h t p k l)
@@ -36,19 +36,19 @@ module _ (h : Head) (t : List ℕ) (p : Plan) where
   pub walk-start : (from : Pos) → Walk from 0 from
   walk-start from = record { turn = omega arith; page = omega arith; ends = refl }
 
-  pub walk-step : (from : Pos) (k : ℕ) (s : Pos) (d : Turn) → Walk from k s → k < turnCount p → d ≡ turnAt h t p k → Walk from (k + 1) (placeGroup h t d s .to)
-  walk-step from k s d w l e = record {
+  pub walk-step : (from : Pos) (k : ℕ) (s : Pos) (turn : Turn) → Walk from k s → k < turnCount p → turn ≡ turnAt h t p k → Walk from (k + 1) (placeGroup h t turn s .to)
+  walk-step from k s turn w l e = record {
     turn = omega arith;
-    page = let n = group-near h t d s in omega (arith, w .page);
-    ends = sym (ap (λ (x : Laid). x .to) (ahead-step k s d l e)) ∙ w .ends;
+    page = let n = group-near h t turn s in omega (arith, w .page);
+    ends = sym (ap (λ (x : Laid). x .to) (ahead-step k s turn l e)) ∙ w .ends;
   }
 
   pub walk-end : (from : Pos) (k : ℕ) (s : Pos) → Walk from k s → turnCount p ≤ k → s ≡ placeAll h t (turns h t p) from .to
   walk-end from k s w l = sym (ap (λ (x : Laid). x .to) (ahead-end k s l)) ∙ w .ends
 
   -- each turn has what `place_group` needs
-  pub walk-ready : (from : Pos) (k : ℕ) (s : Pos) (d : Turn) → Called h t p from → Walk from k s → d ≡ turnAt h t p k → Ready h t d s
-  walk-ready from k s d c w e = record {
+  pub walk-ready : (from : Pos) (k : ℕ) (s : Pos) (turn : Turn) → Called h t p from → Walk from k s → turn ≡ turnAt h t p k → Ready h t turn s
+  walk-ready from k s turn c w e = record {
     small = c .small;
     group = rw e (turn-group h t p k (c .planned));
     page = omega (arith, w .page, w .turn, c .page, c .planned .feet, c .planned .heads);

@@ -3,11 +3,10 @@ use Prim.Native.Nat.{ℕ, zero, suc, _+_}
 use mathlib.Core.Bool.{Bool, true, false, cond}
 use mathlib.Core.List.{List, [], _∷_, _++_}
 use lib.Dec.{eqb}
-use Rattle.tables.specs.Kinds.{typeRH, typePH, typePF, typeRF, lineNextPage}
+use Rattle.tables.specs.Kinds.{lineNextPage}
 use Rattle.tables.specs.declared.Head.{Head}
-use Rattle.lookup.specs.Find.{theGroup}
 use Rattle.lines.specs.Lines.{kindOf, span}
-use Rattle.fits.specs.Starts.{present, startFrom, aboveHead, headEnd, footEnd}
+use Rattle.fits.specs.Starts.{present, startFrom, aboveHead}
 use Rattle.place.specs.declared.Next.{Next}
 use Rattle.place.specs.declared.Next.the-variants as next
 use Rattle.place.specs.declared.Landing.{Landing}
@@ -16,6 +15,7 @@ use Rattle.shape.specs.Shape.{bodyOf, nextOf, frameOf}
 use Rattle.plan.specs.declared.Turn.{Turn}
 use Rattle.plan.specs.declared.Plan.{Plan}
 use Rattle.plan.specs.Plan.{turns}
+use Rattle.headings.specs.Headings.{reportHeading, pageHeading, pageFooting, reportFooting, rhAt, phAt, pfAt, rfAt}
 use Rattle.layout.specs.declared.Pos.{Pos}
 use Rattle.layout.specs.declared.Placed.{Placed}
 
@@ -35,18 +35,6 @@ unfoldable pub dueOf : Head → List ℕ → ℕ → Bool → ℕ → ℕ → Li
 dueOf h t g fromKept page at =
     cond (present h t g) (record { group = g; fromKept = fromKept; page = page; at = at } ∷ []) []
 
-abbrev pub reportHeading : Head → List ℕ → ℕ
-reportHeading h t = theGroup h t typeRH 0
-
-abbrev pub pageHeading : Head → List ℕ → ℕ
-pageHeading h t = theGroup h t typePH 0
-
-abbrev pub pageFooting : Head → List ℕ → ℕ
-pageFooting h t = theGroup h t typePF 0
-
-abbrev pub reportFooting : Head → List ℕ → ℕ
-reportFooting h t = theGroup h t typeRF 0
-
 -- "A page change prints PF, adds 1 to page, .. prints PH."; "A PH or PF printed for a group reads as that group does."
 unfoldable pub pageChange : Head → List ℕ → Bool → ℕ → List Due
 pageChange h t fromKept page =
@@ -60,33 +48,33 @@ pageChanges h t fromKept (suc n) page = pageChange h t fromKept page ++ pageChan
 
 -- "Then, if the group has a next group (ignored on a CF more junior than b)"
 abbrev pub nextFor : Head → List ℕ → Turn → Next
-nextFor h t d = cond (d .follows) (nextOf h t (d .group)) next.None
+nextFor h t turn = cond (turn .follows) (nextOf h t (turn .group)) next.None
 
 -- a group with lines
 abbrev pub placedBy : Head → List ℕ → Turn → Pos → Landing → Placed
-placedBy h t d s l = record {
+placedBy h t turn s l = record {
   changes = l .changes;
   at = l .at;
   to = record {
     page = s .page + l .changes;
-    spot = followed (h .ft) (nextFor h t d) (l .at + span h t (d .group)) (l .spot .saved);
+    spot = followed (h .ft) (nextFor h t turn) (l .at + span h t (turn .group)) (l .spot .saved);
   };
 }
 
 unfoldable pub placedLines : Head → List ℕ → Turn → Pos → Placed
-placedLines h t d s = placedBy h t d s (landing (frameOf h t) (bodyOf h t (d .group)) (s .spot))
+placedLines h t turn s = placedBy h t turn s (landing (frameOf h t) (bodyOf h t (turn .group)) (s .spot))
 
 -- "A group without lines changes none of page, line, seen and saved; its next group is ignored."
 unfoldable pub placed : Head → List ℕ → Turn → Pos → Placed
-placed h t d s = cond (present h t (d .group)) (placedLines h t d s) (record { changes = 0; at = 0; to = s })
+placed h t turn s = cond (present h t (turn .group)) (placedLines h t turn s) (record { changes = 0; at = 0; to = s })
 
 -- "a page change for a body group makes PF, then PH, due before it"
 unfoldable pub placeGroup : Head → List ℕ → Turn → Pos → Laid
-placeGroup h t d s = record {
+placeGroup h t turn s = record {
   dues =
-      pageChanges h t (d .«from_kept») (placed h t d s .changes) (s .page)
-      ++ dueOf h t (d .group) (d .«from_kept») (s .page + placed h t d s .changes) (placed h t d s .at);
-  to = placed h t d s .to;
+      pageChanges h t (turn .«from_kept») (placed h t turn s .changes) (s .page)
+      ++ dueOf h t (turn .group) (turn .«from_kept») (s .page + placed h t turn s .changes) (placed h t turn s .at);
+  to = placed h t turn s .to;
 }
 
 abbrev pub andThen : Laid → Laid → Laid
@@ -94,19 +82,13 @@ andThen a b = record { dues = a .dues ++ b .dues; to = b .to }
 
 unfoldable pub placeAll : Head → List ℕ → List Turn → Pos → Laid
 placeAll h t [] s = record { dues = []; to = s }
-placeAll h t (d ∷ ds) s = andThen (placeGroup h t d s) (placeAll h t ds (placeGroup h t d s .to))
+placeAll h t (turn ∷ ds) s = andThen (placeGroup h t turn s) (placeAll h t ds (placeGroup h t turn s .to))
 
 -- a heading or footing at a line: "After any group prints, line is its last line"
 abbrev pub lineAfter : Head → List ℕ → ℕ → ℕ → ℕ → ℕ
 lineAfter h t g at line = cond (present h t g) (at + span h t g) line
 
 -- "First GENERATE: .. RH, PH": on page 1, where no body group has printed
-abbrev pub rhAt : Head → List ℕ → ℕ
-rhAt h t = startFrom h t (aboveHead h) (reportHeading h t)
-
-abbrev pub phAt : Head → List ℕ → ℕ
-phAt h t = startFrom h t (headEnd h t) (pageHeading h t)
-
 unfoldable pub opening : Head → List ℕ → Laid
 opening h t = record {
   dues = dueOf h t (reportHeading h t) false 1 (rhAt h t) ++ dueOf h t (pageHeading h t) false 1 (phAt h t);
@@ -119,12 +101,6 @@ opening h t = record {
 -- "RF on next page: after PF, page rises by 1, line is 0, seen clears, no heading prints."
 abbrev pub ownPage : Head → List ℕ → Bool
 ownPage h t = cond (present h t (reportFooting h t)) (eqb (kindOf h t (reportFooting h t)) lineNextPage) false
-
-abbrev pub pfAt : Head → List ℕ → ℕ
-pfAt h t = startFrom h t (h .ft) (pageFooting h t)
-
-abbrev pub rfAt : Head → List ℕ → ℕ
-rfAt h t = startFrom h t (footEnd h t) (reportFooting h t)
 
 abbrev pub afterFooting : Head → List ℕ → Pos → Pos
 afterFooting h t s = record {

@@ -2,10 +2,11 @@
 ghost use mathlib.Core.Path.{_≡_};
 ghost use mathlib.Core.Bool.{true};
 ghost use Prim.Native.Nat.{_≤_, _<_};
-ghost use Rattle.fits.specs.Starts.{aboveHead, headEnd, footEnd, present};
+ghost use Rattle.fits.specs.Starts.{present};
 ghost use Rattle.shape.specs.Facts.{Small};
 ghost use Rattle.layout.specs.Layout.{lineAfter, ownPage, nextFor, placedLines, placed, opening, afterFooting, footingPage, closing};
-ghost use Rattle.layout.specs.Facts.{Ready, Starts};
+ghost use Rattle.layout.specs.Facts.{Ready};
+use headings::Start;
 use place::Next;
 use place::Spot;
 use plan::Turn;
@@ -24,57 +25,6 @@ pub struct Placed {
     pub to: Pos,
 }
 
-// A heading or footing of the page or the report, and its first line.
-pub struct Start {
-    pub group: usize,
-    pub at: usize,
-}
-
-// The heading or footing of a type, counted from the line `above`.
-fn start_of(t: &[u16], h: Head, above: usize, kind: usize) -> Start
-    requires { ⌜ above < 17179869184 ⌝ }
-    ensures { λ r. ⌜ Starts h (now (t .entry)) above kind r ⌝ }
-{
-    let group = lookup::find(t, h, kind, 0);
-    let at = fits::start_from(t, h, above, group);
-    Start { group, at }
-}
-
-// RH.
-pub fn report_heading(t: &[u16], h: Head) -> Start
-    ensures { λ r. ⌜ Starts h (now (t .entry)) (aboveHead h) 0 r ⌝ }
-{
-    start_of(t, h, fits::above_head(h), tables::RH)
-}
-
-// PH on the first page, below RH.
-pub fn first_page_heading(t: &[u16], h: Head) -> Start
-    ensures { λ r. ⌜ Starts h (now (t .entry)) (headEnd h (now (t .entry))) 1 r ⌝ }
-{
-    start_of(t, h, fits::head_end(t, h), tables::PH)
-}
-
-// PH on a later page.
-pub fn page_heading(t: &[u16], h: Head) -> Start
-    ensures { λ r. ⌜ Starts h (now (t .entry)) (aboveHead h) 1 r ⌝ }
-{
-    start_of(t, h, fits::above_head(h), tables::PH)
-}
-
-// PF.
-pub fn page_footing(t: &[u16], h: Head) -> Start
-    ensures { λ r. ⌜ Starts h (now (t .entry)) (h .ft) 5 r ⌝ }
-{
-    start_of(t, h, tables::wide(h.ft), tables::PF)
-}
-
-// RF, below PF where it has no page of its own.
-pub fn report_footing(t: &[u16], h: Head) -> Start
-    ensures { λ r. ⌜ Starts h (now (t .entry)) (footEnd h (now (t .entry))) 6 r ⌝ }
-{
-    start_of(t, h, fits::foot_end(t, h), tables::RF)
-}
-
 // The line after a heading or footing: its last one, or `line` where it has none.
 fn line_after(t: &[u16], h: Head, s: Start, line: usize) -> usize
     requires { ⌜ (s .group < 65536) × (s .at < 34359738368) ⌝ }
@@ -90,8 +40,8 @@ pub fn after_opening(t: &[u16], h: Head) -> Pos
     requires { ⌜ Small h (now t) ⌝ }
     ensures { λ r. ⌜ r ≡ opening h (now (t .entry)) .to ⌝ }
 {
-    let rh = report_heading(t, h);
-    let ph = first_page_heading(t, h);
+    let rh = headings::report_heading(t, h);
+    let ph = headings::first_page_heading(t, h);
     let line = line_after(t, h, ph, line_after(t, h, rh, 0));
     Pos {
         page: 1,
@@ -104,25 +54,25 @@ pub fn after_opening(t: &[u16], h: Head) -> Pos
 }
 
 // The next group of a turn; none where it is ignored.
-fn next_for(t: &[u16], h: Head, d: Turn) -> Next
-    requires { ⌜ d .group < 65536 ⌝ }
-    ensures { λ r. ⌜ r ≡ nextFor h (now (t .entry)) d ⌝ }
+fn next_for(t: &[u16], h: Head, turn: Turn) -> Next
+    requires { ⌜ turn .group < 65536 ⌝ }
+    ensures { λ r. ⌜ r ≡ nextFor h (now (t .entry)) turn ⌝ }
 {
-    if d.follows {
-        shape::next_of(t, h, d.group)
+    if turn.follows {
+        shape::next_of(t, h, turn.group)
     } else {
         Next::None
     }
 }
 
 // Where a group with lines lands.
-fn place_lines(t: &[u16], h: Head, d: Turn, s: Pos) -> Placed
-    requires { ⌜ Ready h (now t) d s × (present h (now t) (d .group) ≡ true) ⌝ }
-    ensures { λ r. ⌜ r ≡ placedLines h (now (t .entry)) d s ⌝ }
+fn place_lines(t: &[u16], h: Head, turn: Turn, s: Pos) -> Placed
+    requires { ⌜ Ready h (now t) turn s × (present h (now t) (turn .group) ≡ true) ⌝ }
+    ensures { λ r. ⌜ r ≡ placedLines h (now (t .entry)) turn s ⌝ }
 {
-    let next = next_for(t, h, d);
+    let next = next_for(t, h, turn);
     let f = shape::frame_of(t, h);
-    let b = shape::body_of(t, h, d.group);
+    let b = shape::body_of(t, h, turn.group);
     let spot = s.spot;
     let l = place::land(f, b, spot);
     let u = l.spot;
@@ -138,12 +88,12 @@ fn place_lines(t: &[u16], h: Head, d: Turn, s: Pos) -> Placed
 }
 
 // Where a group lands; one without lines changes nothing.
-pub fn place_group(t: &[u16], h: Head, d: Turn, s: Pos) -> Placed
-    requires { ⌜ Ready h (now t) d s ⌝ }
-    ensures { λ r. ⌜ r ≡ placed h (now (t .entry)) d s ⌝ }
+pub fn place_group(t: &[u16], h: Head, turn: Turn, s: Pos) -> Placed
+    requires { ⌜ Ready h (now t) turn s ⌝ }
+    ensures { λ r. ⌜ r ≡ placed h (now (t .entry)) turn s ⌝ }
 {
-    if fits::present_of(t, h, d.group) {
-        place_lines(t, h, d, s)
+    if fits::present_of(t, h, turn.group) {
+        place_lines(t, h, turn, s)
     } else {
         Placed {
             changes: 0,
@@ -171,7 +121,7 @@ fn after_footing(t: &[u16], h: Head, s: Pos) -> Pos
     ensures { λ r. ⌜ r ≡ afterFooting h (now (t .entry)) s ⌝ }
 {
     let spot = s.spot;
-    let pf = page_footing(t, h);
+    let pf = headings::page_footing(t, h);
     let line = line_after(t, h, pf, tables::wide(spot.line));
     Pos {
         page: s.page,
@@ -211,7 +161,7 @@ pub fn after_closing(t: &[u16], h: Head, s: Pos) -> Pos
     let from = s.spot;
     let p = footing_page(t, h, s);
     let spot = p.spot;
-    let rf = report_footing(t, h);
+    let rf = headings::report_footing(t, h);
     let line = line_after(t, h, rf, tables::wide(spot.line));
     Pos {
         page: p.page,

@@ -50,13 +50,13 @@ fn group_lines(t: &[u16], h: Head, g: usize, changes: u16) -> usize
 }
 
 // One group measured.
-fn measure_group(t: &[u16], h: Head, d: Turn, m: Measured) -> Measured
-    requires { ⌜ Ready h (now t) d (m .to) × (m .lines ≤ 10000000) ⌝ }
-    ensures { λ r. ⌜ Counted (added h (now (t .entry)) m (placeGroup h (now (t .entry)) d (m .to))) (m .lines + 327680) r ⌝ }
+fn measure_group(t: &[u16], h: Head, turn: Turn, m: Measured) -> Measured
+    requires { ⌜ Ready h (now t) turn (m .to) × (m .lines ≤ 10000000) ⌝ }
+    ensures { λ r. ⌜ Counted (added h (now (t .entry)) m (placeGroup h (now (t .entry)) turn (m .to))) (m .lines + 327680) r ⌝ }
 {
     let from = m.to;
-    let r = layout::place_group(t, h, d, from);
-    let more = group_lines(t, h, d.group, r.changes);
+    let r = layout::place_group(t, h, turn, from);
+    let more = group_lines(t, h, turn.group, r.changes);
     let to = r.to;
     Measured {
         lines: m.lines + more,
@@ -73,8 +73,8 @@ fn measure_turns(t: &[u16], h: Head, p: Plan, m: Measured) -> Measured
     let mut k = 0;
     let mut so_far = m;
     while k < all {
-        let d = plan::turn_at(t, h, p, k);
-        so_far = measure_group(t, h, d, so_far);
+        let turn = plan::turn_at(t, h, p, k);
+        so_far = measure_group(t, h, turn, so_far);
         k += 1;
     }
     so_far

@@ -20,7 +20,8 @@ use Rattle.shape.specs.Shape.{frameOf}
 use Rattle.plan.specs.declared.Plan.{Plan}
 use Rattle.plan.specs.Plan.{detail, footings, headings, turns, firstPlan, laterPlan, lastPlan}
 use Rattle.layout.specs.declared.Pos.{Pos}
-use Rattle.layout.specs.Layout.{dueOf, reportHeading, pageHeading, pageFooting, reportFooting, lineAfter, rhAt, phAt, pfAt, rfAt, opening, ownPage, closing, andThen, placeAll, nothing, layout}
+use Rattle.headings.specs.Headings.{reportHeading, pageHeading, pageFooting, reportFooting, rhAt, phAt, pfAt, rfAt}
+use Rattle.layout.specs.Layout.{dueOf, lineAfter, opening, ownPage, closing, andThen, placeAll, nothing, layout}
 use Rattle.pagination.specs.All.{All}
 use Rattle.pagination.specs.Rising.{rank}
 use Rattle.pagination.specs.Parts.{partFrom, partTo}

@@ -22,7 +22,8 @@ use Rattle.place.proofs.Within.{within, rises, at-most-two, line-le, followed-g
 use Rattle.shape.specs.Shape.{bodyOf, nextOf, frameOf}
 use Rattle.plan.specs.declared.Turn.{Turn}
 use Rattle.layout.specs.declared.Pos.{Pos}
-use Rattle.layout.specs.Layout.{Due, Laid, dueOf, pageHeading, pageFooting, pageChange, pageChanges, nextFor, placedLines, placed, placeGroup, andThen, placeAll}
+use Rattle.headings.specs.Headings.{pageHeading, pageFooting}
+use Rattle.layout.specs.Layout.{Due, Laid, dueOf, pageChange, pageChanges, nextFor, placedLines, placed, placeGroup, andThen, placeAll}
 use Rattle.pagination.specs.All.{All}
 use Rattle.pagination.specs.Rising.{rank}
 use Rattle.pagination.specs.Parts.{partFrom, partTo}
@@ -105,54 +106,54 @@ module _ (h : Head) (t : List ℕ) (r : ℕ) (fits : PageFits h t) where
 
   -- a turn's group has lines only if it is a body group
   abbrev pub TurnOk : Turn → Type 0
-  TurnOk d = present h t (d .group) ≡ true → (2 ≤ typeOf h t (d .group)) × (typeOf h t (d .group) ≤ 4)
+  TurnOk turn = present h t (turn .group) ≡ true → (2 ≤ typeOf h t (turn .group)) × (typeOf h t (turn .group) ≤ 4)
 
-  next-in : (d : Turn) (b : Bool) → NextIn (frameOf h t) (nextOf h t (d .group)) → NextIn (frameOf h t) (cond b (nextOf h t (d .group)) next.None)
-  next-in d true n = n
-  next-in d false n = tt
+  next-in : (turn : Turn) (b : Bool) → NextIn (frameOf h t) (nextOf h t (turn .group)) → NextIn (frameOf h t) (cond b (nextOf h t (turn .group)) next.None)
+  next-in turn true n = n
+  next-in turn false n = tt
 
   -- a group with lines
-  module _ (d : Turn) (s : Pos) (p : present h t (d .group) ≡ true) (k : (2 ≤ typeOf h t (d .group)) × (typeOf h t (d .group) ≤ 4)) (run : Running (frameOf h t) (s .spot)) where
+  module _ (turn : Turn) (s : Pos) (p : present h t (turn .group) ≡ true) (k : (2 ≤ typeOf h t (turn .group)) × (typeOf h t (turn .group) ≤ 4)) (run : Running (frameOf h t) (s .spot)) where
     abbrev lands : Landing
-    lands = landing (frameOf h t) (bodyOf h t (d .group)) (s .spot)
+    lands = landing (frameOf h t) (bodyOf h t (turn .group)) (s .spot)
 
-    lands-in : (h .fd ≤ lands .at) × (lands .at + span h t (d .group) ≤ bodyOf h t (d .group) .low) × (bodyOf h t (d .group) .low ≤ h .ft)
+    lands-in : (h .fd ≤ lands .at) × (lands .at + span h t (turn .group) ≤ bodyOf h t (turn .group) .low) × (bodyOf h t (turn .group) .low ≤ h .ft)
     unfolding frameOf bodyOf
     lands-in =
-        let b = fits .body (d .group) p (k .0) (k .1) in
-        let i = within (frameOf h t) (bodyOf h t (d .group)) (s .spot) b run in
+        let b = fits .body (turn .group) p (k .0) (k .1) in
+        let i = within (frameOf h t) (bodyOf h t (turn .group)) (s .spot) b run in
         (i .first, i .last, b .low)
 
     lands-up : lands .changes ≡ 0 → s .spot .line < lands .at
-    lands-up = rises (frameOf h t) (bodyOf h t (d .group)) (s .spot) (fits .body (d .group) p (k .0) (k .1)) run
+    lands-up = rises (frameOf h t) (bodyOf h t (turn .group)) (s .spot) (fits .body (turn .group) p (k .0) (k .1)) run
 
     line-in : s .spot .line ≤ h .ft
     unfolding frameOf
     line-in = line-le (frameOf h t) (s .spot) (omega (arith, fits .fdLd, fits .ldFt)) run
 
-    leaves : Running (frameOf h t) (followed (h .ft) (nextFor h t d) (lands .at + span h t (d .group)) (lands .spot .saved))
+    leaves : Running (frameOf h t) (followed (h .ft) (nextFor h t turn) (lands .at + span h t (turn .group)) (lands .spot .saved))
     unfolding frameOf bodyOf
     leaves =
-        kept-running (frameOf h t) (bodyOf h t (d .group)) (nextFor h t d) (s .spot) (fits .body (d .group) p (k .0) (k .1))
-        (next-in d (d .follows) (fits .next (d .group) p (k .0) (k .1))) run
+        kept-running (frameOf h t) (bodyOf h t (turn .group)) (nextFor h t turn) (s .spot) (fits .body (turn .group) p (k .0) (k .1))
+        (next-in turn (turn .follows) (fits .next (turn .group) p (k .0) (k .1))) run
 
-    made-placed : LaidRunning h t r s (placeGroup h t d s)
+    made-placed : LaidRunning h t r s (placeGroup h t turn s)
     unfolding placeGroup placed placedLines
     made-placed =
-        let g = d .group in
+        let g = turn .group in
         let i = lands-in in
         let part = body-part h t g (k .0) (k .1) in
         let x = lands .at + span h t g in
         let c = s .page + lands .changes in
         let lo = rankAt r s in
         let m = mark (lands .changes) (s .page) lo in
-        let grow : x ≤ followed (h .ft) (nextFor h t d) x (lands .spot .saved) .line = followed-ge (h .ft) (nextFor h t d) x (lands .spot .saved) (omega (arith, i .1, i .2)) in
-        let a = changes-sound (lands .changes) (s .page) lo (d .«from_kept») (omega (arith, line-in)) in
-        let b = body-sound h t r fits g c (lands .at) (d .«from_kept») m (rank r c x) p (mark-under (lands .changes) (s .page) (s .spot .line) (lands .at) lands-up (i .0)) (omega arith) (omega (arith, part .0, i .0)) (omega (arith, part .1, i .1)) in
+        let grow : x ≤ followed (h .ft) (nextFor h t turn) x (lands .spot .saved) .line = followed-ge (h .ft) (nextFor h t turn) x (lands .spot .saved) (omega (arith, i .1, i .2)) in
+        let a = changes-sound (lands .changes) (s .page) lo (turn .«from_kept») (omega (arith, line-in)) in
+        let b = body-sound h t r fits g c (lands .at) (turn .«from_kept») m (rank r c x) p (mark-under (lands .changes) (s .page) (s .spot .line) (lands .at) lands-up (i .0)) (omega arith) (omega (arith, part .0, i .0)) (omega (arith, part .1, i .1)) in
         rw p
         (record {
-          sound = sound-wider h t r lo (rank r c x) _ _ (omega (arith, grow)) (sound-append h t r lo m (rank r c x) (pageChanges h t (d .«from_kept») (lands .changes) (s .page)) (dueOf h t g (d .«from_kept») c (lands .at)) a b);
-          paged = λ u w e f. body-walk h t (lands .changes) (d .«from_kept») (s .page) g (lands .at) u w p k (at-most-two (frameOf h t) (bodyOf h t g) (s .spot)) e f;
+          sound = sound-wider h t r lo (rank r c x) _ _ (omega (arith, grow)) (sound-append h t r lo m (rank r c x) (pageChanges h t (turn .«from_kept») (lands .changes) (s .page)) (dueOf h t g (turn .«from_kept») c (lands .at)) a b);
+          paged = λ u w e f. body-walk h t (lands .changes) (turn .«from_kept») (s .page) g (lands .at) u w p k (at-most-two (frameOf h t) (bodyOf h t g) (s .spot)) e f;
           running = leaves;
           pages = omega arith;
         })
@@ -169,16 +170,16 @@ module _ (h : Head) (t : List ℕ) (r : ℕ) (fits : PageFits h t) where
   }
 
   -- a group without lines, or that is not there, leaves the place
-  absent-placed : (d : Turn) (s : Pos) → present h t (d .group) ≡ false → Running (frameOf h t) (s .spot) → LaidRunning h t r s (placeGroup h t d s)
+  absent-placed : (turn : Turn) (s : Pos) → present h t (turn .group) ≡ false → Running (frameOf h t) (s .spot) → LaidRunning h t r s (placeGroup h t turn s)
   unfolding placeGroup placed dueOf pageChanges
-  absent-placed d s p run = rw p (placed-none s run)
+  absent-placed turn s p run = rw p (placed-none s run)
 
-  pub group-placed : (d : Turn) (s : Pos) → TurnOk d → Running (frameOf h t) (s .spot) → LaidRunning h t r s (placeGroup h t d s)
-  group-placed d s k run = by-test (present h t (d .group)) (λ p. made-placed d s p (k p) run) (λ p. absent-placed d s p run)
+  pub group-placed : (turn : Turn) (s : Pos) → TurnOk turn → Running (frameOf h t) (s .spot) → LaidRunning h t r s (placeGroup h t turn s)
+  group-placed turn s k run = by-test (present h t (turn .group)) (λ p. made-placed turn s p (k p) run) (λ p. absent-placed turn s p run)
 
   pub all-placed : (ds : List Turn) (s : Pos) → All TurnOk ds → Running (frameOf h t) (s .spot) → LaidRunning h t r s (placeAll h t ds s)
   unfolding placeAll
   all-placed [] s k run = placed-none s run
-  all-placed (d ∷ ds) s k run =
-      let v = group-placed d s (k .0) run in
-      placed-after s (placeGroup h t d s) (placeAll h t ds (placeGroup h t d s .to)) v (all-placed ds (placeGroup h t d s .to) (k .1) (v .running))
+  all-placed (turn ∷ ds) s k run =
+      let v = group-placed turn s (k .0) run in
+      placed-after s (placeGroup h t turn s) (placeAll h t ds (placeGroup h t turn s .to)) v (all-placed ds (placeGroup h t turn s .to) (k .1) (v .running))

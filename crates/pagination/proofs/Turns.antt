@@ -12,7 +12,8 @@ use Rattle.tables.specs.declared.Head.{Head}
 use Rattle.tables.specs.Table.{typeOf}
 use Rattle.fits.specs.Starts.{present, startFrom, aboveHead}
 use Rattle.layout.specs.declared.Pos.{Pos}
-use Rattle.layout.specs.Layout.{Due, Laid, dueOf, reportHeading, pageHeading, pageFooting, reportFooting, rhAt, phAt, pfAt, rfAt, ownPage, pageChange, pageChanges, andThen, nothing, opening}
+use Rattle.headings.specs.Headings.{reportHeading, pageHeading, pageFooting, reportFooting, rhAt, phAt, pfAt, rfAt}
+use Rattle.layout.specs.Layout.{Due, Laid, dueOf, ownPage, pageChange, pageChanges, andThen, nothing, opening}
 use Rattle.pagination.specs.All.{All}
 use Rattle.pagination.specs.Claims.{lastOf, Walk, Paged}
 use Rattle.pagination.specs.Turns.{Chain, HeadsPage, PageTurn, Behind, isBody, bodies, UpToTwo}

@@ -10,7 +10,8 @@ use Rattle.lines.specs.Lines.{span, later, step}
 use Rattle.fits.specs.Starts.{present, startFrom, aboveHead, headEnd, footEnd}
 use Rattle.place.specs.Rules.{Described, NextIn}
 use Rattle.shape.specs.Shape.{bodyOf, nextOf, frameOf}
-use Rattle.layout.specs.Layout.{reportHeading, pageHeading, pageFooting, reportFooting, rhAt, phAt, pfAt, rfAt, ownPage}
+use Rattle.headings.specs.Headings.{reportHeading, pageHeading, pageFooting, reportFooting, rhAt, phAt, pfAt, rfAt}
+use Rattle.layout.specs.Layout.{ownPage}
 
 pub record PageFits (h : Head) (t : List ℕ) : Type 0 where
   -- D2: "1 ≤ H ≤ FD ≤ LD ≤ FT ≤ P ≤ 999"

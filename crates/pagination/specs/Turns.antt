@@ -9,7 +9,8 @@ use Rattle.tables.specs.Kinds.{typeCH, typeCF}
 use Rattle.tables.specs.declared.Head.{Head}
 use Rattle.tables.specs.Table.{typeOf}
 use Rattle.fits.specs.Starts.{present}
-use Rattle.layout.specs.Layout.{Due, pageHeading, pageFooting, reportFooting, ownPage}
+use Rattle.headings.specs.Headings.{pageHeading, pageFooting, reportFooting}
+use Rattle.layout.specs.Layout.{Due, ownPage}
 
 -- F holds of each element and the one right before it; u stands before the first
 module _ {A : Type 0} where

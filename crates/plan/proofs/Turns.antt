@@ -51,7 +51,7 @@ module _ (h : Head) (t : List ℕ) where
   -- turn j past the footings: m headings from b down, and the detail
   tail-at : (b m g j : ℕ) (x : Turn) (q : Bool) → (q ≡ true → j < m) → (q ≡ false → j ≡ m) → getD (headings h t b m ++ (detail g ∷ [])) j x ≡ cond q (heading h t (b + j)) (detail g)
   tail-at b m g j x q below past =
-      by-cond (λ (d : Turn). getD (headings h t b m ++ (detail g ∷ [])) j x ≡ d) q
+      by-cond (λ (turn : Turn). getD (headings h t b m ++ (detail g ∷ [])) j x ≡ turn) q
       (λ e. List·getD-append (headings h t b m) _ x j (rw length-headings (below e)) ∙ headings-at b m j x (below e))
       (λ e.
       let f = past e in
@@ -67,7 +67,7 @@ module _ (h : Head) (t : List ℕ) where
     pub turns-at : (k : ℕ) (x : Turn) → k < turnCount p → getD (turns h t p) k x ≡ turnAt h t p k
     unfolding turns turnAt
     turns-at k x l =
-        by-cond (λ (d : Turn). getD (turns h t p) k x ≡ d) (ltb k (p .feet))
+        by-cond (λ (turn : Turn). getD (turns h t p) k x ≡ turn) (ltb k (p .feet))
         (λ e.
         let f = ltb-true k (p .feet) e in
         List·getD-append (footings h t (p .level) (p .feet)) _ x k (rw length-footings f) ∙ footings-at (p .level) (p .feet) k x f)
@@ -84,7 +84,7 @@ module _ (h : Head) (t : List ℕ) where
     pub turns-step : (k : ℕ) → k < turnCount p → drop k (turns h t p) ≡ turnAt h t p k ∷ drop (k + 1) (turns h t p)
     turns-step k l =
         rw (add-one, drop-cons (turns h t p) k (detail 0) (rw length-turns l))
-        (ap (λ d. d ∷ drop (suc k) (turns h t p)) (turns-at k (detail 0) l))
+        (ap (λ turn. turn ∷ drop (suc k) (turns h t p)) (turns-at k (detail 0) l))
 
     pub turns-end : (k : ℕ) → turnCount p ≤ k → drop k (turns h t p) ≡ []
     turns-end k l = drop-of-length-le (turns h t p) {i = k} (rw length-turns l)
@@ -96,6 +96,6 @@ module _ (h : Head) (t : List ℕ) where
     pub turn-group : (k : ℕ) → Planned h p → turnAt h t p k .group ≤ h .groups
     unfolding turnAt
     turn-group k f =
-        by-cond (λ (d : Turn). d .group ≤ h .groups) (ltb k (p .feet))
+        by-cond (λ (turn : Turn). turn .group ≤ h .groups) (ltb k (p .feet))
         (λ e. group-le 4 _)
-        (λ e. by-cond (λ (d : Turn). d .group ≤ h .groups) (ltb k (p .feet + p .heads)) (λ e. group-le 2 _) (λ e. f .detail))
+        (λ e. by-cond (λ (turn : Turn). turn .group ≤ h .groups) (ltb k (p .feet + p .heads)) (λ e. group-le 2 _) (λ e. f .detail))

@@ -4,23 +4,13 @@ use Prim.Native.Nat.{ℕ, _<_}
 use mathlib.Core.Bool.{_&&_}
 use mathlib.Core.List.{List}
 use lib.IntN.{ℤ}
-use Rattle.counts.proofs.Laws.{by-cond}
+use Rattle.counts.proofs.Laws.{by-cond, fold-keeps}
 use Rattle.tables.specs.declared.Head.{Head}
 use Rattle.tables.specs.Table.{levelOf}
 use Rattle.sums.specs.declared.Totals.{Totals}
-use Rattle.sums.specs.Sums.{sumAt, addAt}
-use Rattle.sums.specs.Facts.{InRange}
-use Rattle.sums.proofs.Folds.{fold-keeps}
-use Rattle.sums.proofs.Range.{add-range}
-use Rattle.sums.proofs.Kept.{each-addend-keeps}
+use Rattle.sums.specs.Sums.{sumAt}
+use Rattle.sums.proofs.Kept.{Adds, each-addend-keeps}
 use Rattle.rolling.specs.Rolling.{sameGroup, addSame, crossCounter, names, senior, rollInto, rollCounter}
-
--- additions to counters below n keep P
-abbrev pub Adds : ℕ → (Totals → Type 0) → Type 0
-Adds n P = (k : ℕ) (x : ℤ) (acc : Totals) → k < n → P acc → P (addAt k x acc)
-
-pub range-adds : (n : ℕ) → Adds n InRange
-range-adds n k x acc l r = add-range k x r
 
 module _ (h : Head) (t : List ℕ) {P : Totals → Type 0} (add : Adds (h .counters) P) where
   pub add-same-keeps : (g k a : ℕ) → k < h .counters → {acc : Totals} → P acc → P (addSame h t g k a acc)

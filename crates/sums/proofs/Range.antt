@@ -2,7 +2,7 @@
 -- Assumes nothing.
 use Prim.Native.Nat.{ℕ, zero, suc, _+_, _≤_, _<_}
 use mathlib.Core.Path.{_≡_, refl, ap, _∙_}
-use mathlib.Core.Bool.{Bool, true}
+use mathlib.Core.Bool.{true}
 use mathlib.Core.List.{List, [], _∷_}
 use mathlib.Core.Logic.{_⊎_, inl, inr, ⊎-elim}
 use native.Mathlib.Omega.{arith}
@@ -13,11 +13,12 @@ use lib.ListN.{getD, set}
 use mir.Syntax.{w64}
 use mir.Val.{SFits, toZ, ofZ}
 use Rattle.counts.proofs.Laws.{by-cond, all-at}
+use Rattle.file.specs.Limits.{countersMax}
 use Rattle.number.specs.Value.{limit}
 use Rattle.number.proofs.Bits.{sfits-natAbs, read-natAbs}
 use Rattle.rows.proofs.Searches.{all-intro}
 use Rattle.sums.specs.declared.Totals.{Totals}
-use Rattle.sums.specs.Sums.{totals, inRange, sumOk, sumsOk, sumAt, addAt, Does}
+use Rattle.sums.specs.Sums.{inRange, sumOk, sumsOk, sumAt, addAt}
 use Rattle.sums.specs.Facts.{InRange}
 
 -- magnitudes of sums
@@ -48,9 +49,9 @@ module _ (x y : ℤ) (p : inRange x ≡ true) (q : inRange y ≡ true) where
 
 -- lists of sums
 
-pub sum-in : (l : List ℤ) (i : ℕ) → i < 32 → sumsOk l ≡ true → inRange (getD l i (pos 0)) ≡ true
+pub sum-in : (l : List ℤ) (i : ℕ) → i < countersMax → sumsOk l ≡ true → inRange (getD l i (pos 0)) ≡ true
 unfolding sumsOk
-sum-in l i h e = all-at (sumOk l) i 32 h e
+sum-in l i h e = all-at (sumOk l) i countersMax h e
 
 -- an entry after a store is what was stored, or what it was
 pub getD-set : {A : Type 0} (l : List A) (i k : ℕ) (x d : A) → (getD (set l i x) k d ≡ x) ⊎ (getD (set l i x) k d ≡ getD l k d)
@@ -63,14 +64,10 @@ getD-set (y ∷ l) (suc i) (suc k) x d = getD-set l i k x d
 pub sums-set : (l : List ℤ) (i : ℕ) (z : ℤ) → inRange z ≡ true → sumsOk l ≡ true → sumsOk (set l i z) ≡ true
 unfolding sumsOk
 sums-set l i z h e =
-    all-intro (sumOk (set l i z)) 32 (λ k b. ⊎-elim (λ q. ap inRange q ∙ h) (λ q. ap inRange q ∙ sum-in l k b e) (getD-set l i k z (pos 0)))
+    all-intro (sumOk (set l i z)) countersMax (λ k b. ⊎-elim (λ q. ap inRange q ∙ h) (λ q. ap inRange q ∙ sum-in l k b e) (getD-set l i k z (pos 0)))
 
 -- an addition keeps the sums in range
 pub add-range : (i : ℕ) (x : ℤ) {a : Totals} → InRange a → InRange (addAt i x a)
 unfolding addAt
 add-range i x {a} r =
     by-cond InRange (inRange (sumAt i a +ℤ x)) (λ e. record { sums = sums-set (a .sums) i (sumAt i a +ℤ x) e (r .sums) }) (λ e. record { sums = r .sums })
-
--- work in the sums' place that keeps totals in range keeps them so
-pub does-range : (f : Totals → Totals) {ok ok' : Bool} {sums sums' : List ℤ} → ((a : Totals) → InRange a → InRange (f a)) → Does f ok sums ok' sums' → sumsOk sums ≡ true → sumsOk sums' ≡ true
-does-range f {ok' = ok'} {sums' = sums'} g e r = let z : InRange (totals ok' sums' []) = rw (e []) (g _ (record { sums = r })) in z .sums

@@ -3,6 +3,7 @@ use Prim.Native.Nat.{ℕ, _+_, _≤_, _<_}
 use mathlib.Core.Path.{_≡_}
 use mathlib.Core.Bool.{true}
 use mathlib.Core.List.{List}
+use Rattle.file.specs.Limits.{countersMax, detailsMax}
 use Rattle.tables.specs.declared.Head.{Head}
 use Rattle.tables.specs.Table.{fieldKind, firstAddend, addendCount, addendKind, addendIndex}
 use Rattle.rows.specs.Facts.{Formed}
@@ -17,16 +18,16 @@ pub record AddendIn (h : Head) (t : List ℕ) (a : ℕ) : Type 0 where
 
 -- D1: "32 counters"; D8 of each of their addends
 pub record CountersIn (h : Head) (t : List ℕ) : Type 0 where
-  pub few : h .counters ≤ 32
+  pub few : h .counters ≤ countersMax
   pub addends : (k j : ℕ) → k < h .counters → j < addendCount h t k → AddendIn h t (firstAddend h t k + j)
 
 -- every sum is in range
 pub record InRange (acc : Totals) : Type 0 where
   pub sums : sumsOk (acc .sums) ≡ true
 
--- a row of detail d can be added
-pub record Adding (h : Head) (t rec : List ℕ) (d : ℕ) (acc : Totals) : Type 0 where
+-- a row of detail n can be added
+pub record Adding (h : Head) (t rec : List ℕ) (n : ℕ) (acc : Totals) : Type 0 where
   pub counters : CountersIn h t
   pub row : Formed h t rec
-  pub detail : d < 8
+  pub detail : n < detailsMax
   pub range : InRange acc

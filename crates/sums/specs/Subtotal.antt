@@ -18,15 +18,15 @@ eachAddend h t k f acc = foldBelow (addendCount h t k) (λ j. f (firstAddend h t
 
 -- a field addend "whose mask has d" ("bit i for detail i")
 abbrev pub selected : Head → List ℕ → ℕ → ℕ → Bool
-selected h t d a = eqb (addendKind h t a) addendField && eqb (addendMask h t a / 2 ^ d % 2) 1
+selected h t detail a = eqb (addendKind h t a) addendField && eqb (addendMask h t a / 2 ^ detail % 2) 1
 
 -- addend a of counter k
 unfoldable pub addField : Head → List ℕ → List ℕ → ℕ → ℕ → ℕ → Totals → Totals
-addField h t rec d k a acc = cond (selected h t d a) (addAt k (numberOf (fieldPart t rec (addendIndex h t a))) acc) acc
+addField h t rec detail k a acc = cond (selected h t detail a) (addAt k (numberOf (fieldPart t rec (addendIndex h t a))) acc) acc
 
 abbrev pub addFields : Head → List ℕ → List ℕ → ℕ → ℕ → Totals → Totals
-addFields h t rec d k acc = eachAddend h t k (addField h t rec d k) acc
+addFields h t rec detail k acc = eachAddend h t k (addField h t rec detail k) acc
 
 -- "Subtotal: counters in order, field addends in order whose mask has d."
 unfoldable pub subtotal : Head → List ℕ → List ℕ → ℕ → Totals → Totals
-subtotal h t rec d acc = foldBelow (h .counters) (addFields h t rec d) acc
+subtotal h t rec detail acc = foldBelow (h .counters) (addFields h t rec detail) acc

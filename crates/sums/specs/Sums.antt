@@ -7,6 +7,7 @@ use lib.Dec.{leb}
 use lib.IntN.{ℤ, pos, natAbs, _+ℤ_}
 use lib.ListN.{getD, set}
 use Rattle.counts.specs.Below.{allBelow}
+use Rattle.file.specs.Limits.{countersMax}
 use Rattle.number.specs.Value.{limit}
 use Rattle.sums.specs.declared.Totals.{Totals}
 
@@ -19,7 +20,7 @@ sumOk l i = inRange (getD l i (pos 0))
 
 -- "up to 32 sums each within ±(10^18 − 1)"
 unfoldable pub sumsOk : List ℤ → Bool
-sumsOk l = allBelow 32 (sumOk l)
+sumsOk l = allBelow countersMax (sumOk l)
 
 -- sum i
 abbrev pub sumAt : ℕ → Totals → ℤ

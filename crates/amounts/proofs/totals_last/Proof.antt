@@ -7,14 +7,11 @@ use Rattle.amounts.specs.Totals.{oldIfRefused, totalsLast}
 use Rattle.amounts.proofs.totals_last.Statement.{statement}
 use Rattle.amounts.proofs.totals_last.Tie as tie
 
-returns : tie.Need-returns
-unfolding totalsLast
-returns c = c .old-if-refused .ensures ∙ ap (oldIfRefused _) (c .before .footings .ensures)
-
 pub totals-last-spec : {M : Type 1} → statement M
+unfolding totalsLast
 totals-last-spec =
     tie.close
     (tie.spec
     (λ c κs. (c .before .before .before .pre, omega arith))
     (λ c κs. search needs)
-    returns)
+    (λ c. c .old-if-refused .ensures ∙ ap (oldIfRefused _) (c .before .footings .ensures)))

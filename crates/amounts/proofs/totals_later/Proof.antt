@@ -16,15 +16,12 @@ subtotal-requires c κs =
     let r = work-range (footings _ _ _) (λ x. footings-keeps (s .args .h) (s .args .t .now) (range-closed _) (s .args .b)) (c .before .footings .ensures) (p .range .sums) in
     record { counters = p .counters; row = p .row; detail = p .detail; range = record { sums = r } }
 
-returns : tie.Need-returns
-unfolding totalsLater
-returns c = c .old-if-refused .ensures ∙ ap (oldIfRefused _) (c .before .subtotal .ensures _ ∙ ap (subtotal _ _ _ _) (c .before .before .before .footings .ensures))
-
 pub totals-later-spec : {M : Type 1} → statement M
+unfolding totalsLater
 totals-later-spec =
     tie.close
     (tie.spec
     (λ c κs. let p = c .before .before .before .before .pre in ((p .0 .counters, p .0 .range .sums), p .1))
     subtotal-requires
     (λ c κs. search needs)
-    returns)
+    (λ c. c .old-if-refused .ensures ∙ ap (oldIfRefused _) (c .before .subtotal .ensures _ ∙ ap (subtotal _ _ _ _) (c .before .before .before .footings .ensures))))

@@ -5,31 +5,29 @@ use mathlib.Core.Path.{_≡_}
 use native.Mathlib.Omega.{arith}
 use borrow.Author.Needs.{needs}
 use Rattle.counts.specs.Below.{allBelow}
-use Rattle.counts.proofs.Laws.{all-next}
+use Rattle.counts.proofs.Laws.{all-start, all-step, all-end}
 use Rattle.counters.specs.Counters.{counterOk}
 use Rattle.counters.proofs.counters_ok.Statement.{statement}
 use Rattle.counters.proofs.counters_ok.Tie as tie
 
 abbrev Inv-loop : tie.InvT-loop
-Inv-loop t h d n ok₀ k₀ ok k = (k ≤ n) × (ok ≡ allBelow k (counterOk h t d))
+Inv-loop t h details n ok₀ k₀ ok k = (k ≤ n) × (ok ≡ allBelow k (counterOk h t details))
 
 abbrev μ-loop : tie.MeasureT-loop
-μ-loop t h d n ok₀ k₀ ok k = n - k
-
-loop-holds : tie.Need-loop-holds Inv-loop μ-loop
-unfolding allBelow
-loop-holds c = search needs
-
-loop-again : tie.Need-loop-again Inv-loop μ-loop
-unfolding counterOk
-loop-again c = (omega arith, all-next _ _ (c .before .before .before .loop .inv .1) (rw (c .addends-ok .ensures, c .before .footing-ok .ensures)))
-
-returns : tie.Need-returns Inv-loop μ-loop
-returns c =
-    let e : c .before .loop .k ≡ c .before .before .wide .result = omega arith in
-    rw (c .before .loop .inv .1, e, c .before .before .wide .ensures .is)
+μ-loop t h details n ok₀ k₀ ok k = n - k
 
 pub counters-ok-spec : {M : Type 1} → statement M
+unfolding counterOk
 counters-ok-spec =
     tie.close
-    (tie.spec Inv-loop μ-loop (λ c κs. search needs) loop-holds (λ c κs. omega arith) (λ c κs. omega arith) (λ c. omega arith) (λ c. omega arith) loop-again returns)
+    (tie.spec
+    Inv-loop
+    μ-loop
+    (λ c κs. search needs)
+    (λ c. all-start _ _)
+    (λ c κs. omega arith)
+    (λ c κs. omega arith)
+    (λ c. omega arith)
+    (λ c. omega arith)
+    (λ c. all-step _ (c .before .before .before .loop .inv) (c .before .before .loop-test .taken) (rw (c .addends-ok .ensures, c .before .footing-ok .ensures)))
+    (λ c. all-end _ (c .before .loop .inv) (c .loop-test .left) (c .before .before .wide .ensures .is)))

@@ -8,7 +8,7 @@ use Rattle.counters.proofs.mask_ok.Tie as tie
 returns : tie.Need-returns
 returns c =
     let a = c .before .args in
-    rw (c .least .ensures, shift-none (a .d) (a .mask) (search needs))
+    rw (c .least .ensures, shift-none (a .details) (a .mask) (search needs))
 
 pub mask-ok-spec : {M : Type 1} → statement M
 mask-ok-spec = tie.close (tie.spec (λ c κs. search needs) (λ c. search needs) returns)

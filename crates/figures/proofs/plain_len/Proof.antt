@@ -11,5 +11,5 @@ plain-len-spec =
     (tie.spec
     (λ c. search needs)
     (λ c. search needs)
-    (λ c. rw (ne-eqb (c .before .args .d) 0 (λ e. omega arith)) (omega arith))
-    (λ c. rw (eq-eqb (c .before .args .d) 0 (omega arith)) (omega arith)))
+    (λ c. rw (ne-eqb (c .before .args .decimals) 0 (λ e. omega arith)) (omega arith))
+    (λ c. rw (eq-eqb (c .before .args .decimals) 0 (omega arith)) (omega arith)))

@@ -11,15 +11,15 @@ use Rattle.figures.proofs.put_exact.Statement.{statement}
 use Rattle.figures.proofs.put_exact.Tie as tie
 
 abbrev text : tie.Start → List ℕ
-text s = signedText (s .args .negative) (s .args .n) (s .args .d)
+text s = signedText (s .args .negative) (s .args .n) (s .args .decimals)
 
 abbrev unsigned : tie.Start → List ℕ
-unsigned s = digits (s .args .k) (s .args .whole) ++ fraction (s .args .d) (s .args .n)
+unsigned s = digits (s .args .k) (s .args .whole) ++ fraction (s .args .decimals) (s .args .n)
 
 parts : (s : tie.Start) → text s ≡ sign (s .args .negative) ++ unsigned s
 parts s =
     let a = s .args in
-    signedText-parts (a .n) (a .d) (a .negative) (a .whole) (s .pre .0) ∙ ap (λ (k : ℕ). sign (a .negative) ++ (digits k (a .whole) ++ fraction (a .d) (a .n))) (sym (s .pre .1))
+    signedText-parts (a .n) (a .decimals) (a .negative) (a .whole) (s .pre .0) ∙ ap (λ (k : ℕ). sign (a .negative) ++ (digits k (a .whole) ++ fraction (a .decimals) (a .n))) (sym (s .pre .1))
 
 started : (s : tie.Start) → Going (s .args .out .now) (s .args .at) (text s) (s .args .out .now) (s .args .at) (text s)
 started s = going-start (s .args .out .now) (s .args .at) (text s) (s .pre .2)
@@ -38,17 +38,17 @@ put-exact-spec =
     going-room (started s) (sign (s .args .negative)) (unsigned s) (parts s))
     (λ c κs.
     let a = c .before .before .before .before .before .before .args in
-    omega (arith, going-room (signed (c .before .before .before)) (digits (a .k) (a .whole)) (fraction (a .d) (a .n)) refl, length-digits (a .k) (a .whole)))
+    omega (arith, going-room (signed (c .before .before .before)) (digits (a .k) (a .whole)) (fraction (a .decimals) (a .n)) refl, length-digits (a .k) (a .whole)))
     (λ c.
     let b = c .before .before .before .before .before .before in
     let a = b .before .before .before .args in
-    omega (arith, going-room (signed b) (digits (a .k) (a .whole)) (fraction (a .d) (a .n)) refl, length-digits (a .k) (a .whole)))
+    omega (arith, going-room (signed b) (digits (a .k) (a .whole)) (fraction (a .decimals) (a .n)) refl, length-digits (a .k) (a .whole)))
     (λ c κs.
     let b = c .before .before .before .before .before .before .before in
     let a = b .before .before .before .args in
-    going-rest (going-step (signed b) (digits (a .k) (a .whole)) (fraction (a .d) (a .n)) refl (c .before .before .before .spell .ensures) (omega (arith, length-digits (a .k) (a .whole)))))
+    going-rest (going-step (signed b) (digits (a .k) (a .whole)) (fraction (a .decimals) (a .n)) refl (c .before .before .before .spell .ensures) (omega (arith, length-digits (a .k) (a .whole)))))
     (λ c. search needs)
     (λ c.
     let b = c .before .before .before .before .before .before .before .before .before .before in
     let a = b .before .before .before .args in
-    c .before .before .put-fraction .ensures ∙ going-step (signed b) (digits (a .k) (a .whole)) (fraction (a .d) (a .n)) refl (c .before .before .before .before .before .before .spell .ensures) (omega (arith, length-digits (a .k) (a .whole))) .same))
+    c .before .before .put-fraction .ensures ∙ going-step (signed b) (digits (a .k) (a .whole)) (fraction (a .decimals) (a .n)) refl (c .before .before .before .before .before .before .spell .ensures) (omega (arith, length-digits (a .k) (a .whole))) .same))

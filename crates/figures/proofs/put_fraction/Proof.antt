@@ -12,22 +12,22 @@ use Rattle.figures.proofs.Laws.{length-digits, fraction-none, fraction-
 use Rattle.figures.proofs.put_fraction.Statement.{statement}
 use Rattle.figures.proofs.put_fraction.Tie as tie
 
--- a point and d digits
-size : (c : tie.Then1) → length (fraction (c .before .before .args .d) (c .before .before .args .n)) ≡ 1 + c .before .before .args .d
+-- a point and the decimals
+size : (c : tie.Then1) → length (fraction (c .before .before .args .decimals) (c .before .before .args .n)) ≡ 1 + c .before .before .args .decimals
 size c =
     let a = c .before .before .args in
-    ap length (fraction-some (a .n) (a .d) (c .if1 .taken)) ∙ omega (arith, length-digits (a .d) (a .n))
+    ap length (fraction-some (a .n) (a .decimals) (c .if1 .taken)) ∙ omega (arith, length-digits (a .decimals) (a .n))
 
 returns : tie.Need-returns
 returns c =
     let b = c .before .before .before .before .before .before .before .before in
     let a = b .before .before .args in
-    splice-then (a .out .now) (a .at) (46 ∷ []) (a .at + 1) (digits (a .d) (a .n)) _ (c .before .before .before .before .before .before .fill .ensures) (c .before .before .spell .ensures) refl (sym (fraction-some (a .n) (a .d) (b .if1 .taken))) (omega (arith, size b))
+    splice-then (a .out .now) (a .at) (46 ∷ []) (a .at + 1) (digits (a .decimals) (a .n)) _ (c .before .before .before .before .before .before .fill .ensures) (c .before .before .spell .ensures) refl (sym (fraction-some (a .n) (a .decimals) (b .if1 .taken))) (omega (arith, size b))
 
 returns-2 : tie.Need-returns-2
 returns-2 c =
     let a = c .before .before .args in
-    sym (ap (splice (a .out .now) (a .at)) (fraction-none (a .n) (a .d) (c .if1 .left)) ∙ splice-nil (a .out .now) (a .at))
+    sym (ap (splice (a .out .now) (a .at)) (fraction-none (a .n) (a .decimals) (c .if1 .left)) ∙ splice-nil (a .out .now) (a .at))
 
 pub put-fraction-spec : {M : Type 1} → statement M
 put-fraction-spec =

@@ -22,8 +22,8 @@ returns c =
     let e = toZ-ofZ w64 (a .v) (s .fits .v) in
     let n = c .before .before .before .before .magnitude .ensures ∙ ap natAbs e in
     c .before .before .put-signed .ensures
-    ∙ ap (λ (m : ℕ). splice (a .out .now) (a .at) (alignRight (a .w) (signedText (ltZ (toZ w64 (ofZ w64 (a .v))) (pos 0)) m (a .d)))) n
-    ∙ ap (λ (b : Bool). splice (a .out .now) (a .at) (alignRight (a .w) (signedText b (natAbs (a .v)) (a .d)))) (ap (λ (z : ℤ). ltZ z (pos 0)) e ∙ isNegative-ltZ (a .v))
+    ∙ ap (λ (m : ℕ). splice (a .out .now) (a .at) (alignRight (a .w) (signedText (ltZ (toZ w64 (ofZ w64 (a .v))) (pos 0)) m (a .decimals)))) n
+    ∙ ap (λ (b : Bool). splice (a .out .now) (a .at) (alignRight (a .w) (signedText b (natAbs (a .v)) (a .decimals)))) (ap (λ (z : ℤ). ltZ z (pos 0)) e ∙ isNegative-ltZ (a .v))
 
 pub put-number-spec : {M : Type 1} → statement M
 put-number-spec =

@@ -13,7 +13,7 @@ use Rattle.figures.proofs.put_signed.Statement.{statement}
 use Rattle.figures.proofs.put_signed.Tie as tie
 
 abbrev text : tie.Start → List ℕ
-text s = signedText (s .args .negative) (s .args .n) (s .args .d)
+text s = signedText (s .args .negative) (s .args .n) (s .args .decimals)
 
 measured : (c : tie.After-text-len) → c .text-len .result ≡ length (text (c .before .before .before .before))
 measured c =
@@ -21,8 +21,8 @@ measured c =
     let a = s .args in
     let w = c .before .before .whole-part in
     c .text-len .ensures
-    ∙ ap (λ (k : ℕ). length (sign (a .negative)) + (k + fractionLength (a .d))) (c .before .places .ensures)
-    ∙ sym (length-signedText (a .n) (a .d) (a .negative) (w .result) (w .ensures))
+    ∙ ap (λ (k : ℕ). length (sign (a .negative)) + (k + fractionLength (a .decimals))) (c .before .places .ensures)
+    ∙ sym (length-signedText (a .n) (a .decimals) (a .negative) (w .result) (w .ensures))
 
 returns : tie.Need-returns
 returns c =

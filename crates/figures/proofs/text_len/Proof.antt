@@ -10,6 +10,6 @@ text-len-spec =
     tie.close
     (tie.spec
     (λ c κs. search needs)
-    (λ c. omega (arith, fractionLength-le (c .before .before .args .d)))
+    (λ c. omega (arith, fractionLength-le (c .before .before .args .decimals)))
     (λ c. rw (c .if1 .taken) (omega arith))
     (λ c. rw (c .if1 .left) (omega arith)))

@@ -8,10 +8,10 @@ use Rattle.figures.proofs.whole_part.Statement.{statement}
 use Rattle.figures.proofs.whole_part.Tie as tie
 
 abbrev Inv-loop : tie.InvT-loop
-Inv-loop n d rest₀ k₀ rest k = (rest ≡ n / 10 ^ k) × (k ≤ d)
+Inv-loop n decimals rest₀ k₀ rest k = (rest ≡ n / 10 ^ k) × (k ≤ decimals)
 
 abbrev μ-loop : tie.MeasureT-loop
-μ-loop n d rest₀ k₀ rest k = d - k
+μ-loop n decimals rest₀ k₀ rest k = decimals - k
 
 pub whole-part-spec : {M : Type 1} → statement M
 whole-part-spec =
@@ -28,5 +28,5 @@ whole-part-spec =
     (λ c.
     let l = c .before .loop in
     let a = c .before .before .args in
-    let e : l .k ≡ a .d = omega arith in
+    let e : l .k ≡ a .decimals = omega arith in
     l .inv .0 ∙ ap (λ (k : ℕ). a .n / 10 ^ k) e))

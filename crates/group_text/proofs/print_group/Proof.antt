@@ -9,7 +9,7 @@ use Rattle.counts.specs.Below.{sumBelow}
 use Rattle.counts.proofs.Laws.{sum-next}
 use Rattle.splice.proofs.Going.{Going, going-start, going-room, going-on, going-end}
 use Rattle.lines.specs.Lines.{step, lineNumber}
-use Rattle.compose.specs.Items.{inputs}
+use Rattle.item_text.specs.Items.{inputs}
 use Rattle.group_text.specs.Groups.{joinFrom, ownBytes, groupBytes}
 use Rattle.group_text.proofs.Groups.{join-start, join-next, join-end, line-in}
 use Rattle.group_text.proofs.print_group.Statement.{statement}

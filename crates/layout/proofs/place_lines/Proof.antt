@@ -21,7 +21,7 @@ place-lines-spec =
     let s = l .before .before .before .before .before .before in
     let a = s .args in
     rw (l .land .ensures, l .before .before .body-of .ensures, l .before .before .before .frame-of .ensures)
-    (omega (arith, landing-small (a .h) (a .t .now) (s .pre .0 .small) (a .d .group) (s .pre .1) (a .s .spot))))
+    (omega (arith, landing-small (a .h) (a .t .now) (s .pre .0 .small) (a .turn .group) (s .pre .1) (a .s .spot))))
     (λ c κs. search needs)
     (λ c. search needs)
     (λ c.
@@ -31,4 +31,4 @@ place-lines-spec =
     (λ c.
     let l = c .before .before .before .before .before .before in
     let a = l .before .before .before .before .before .before .args in
-    placed-from (a .h) (a .t .now) (a .d) (a .s) _ _ _ _ _ (l .before .before .before .frame-of .ensures) (l .before .before .body-of .ensures) (l .land .ensures) (l .before .before .before .before .next-for .ensures) (c .before .before .follow .ensures)))
+    placed-from (a .h) (a .t .now) (a .turn) (a .s) _ _ _ _ _ (l .before .before .before .frame-of .ensures) (l .before .before .body-of .ensures) (l .land .ensures) (l .before .before .before .before .next-for .ensures) (c .before .before .follow .ensures)))

@@ -9,14 +9,15 @@ use borrow.Author.Tests.{eqb-true}
 use lib.IntN.{pos}
 use lib.ListN.{getD}
 use Rattle.counts.proofs.Laws.{and-l}
+use Rattle.file.specs.Limits.{countersMax}
 use Rattle.sums.specs.Sums.{inRange}
 use Rattle.sums.proofs.Range.{read-in, sum-in}
 use Rattle.rolling.specs.Rolling.{addSame}
 use Rattle.rolling.proofs.add_same.Statement.{statement}
 use Rattle.rolling.proofs.add_same.Tie as tie
 
--- the addend names a counter, which stands below 32
-named : (c : tie.Then1) → c .before .before .addend-num2 .result < 32
+-- the addend names a counter, which stands below their limit
+named : (c : tie.Then1) → c .before .before .addend-num2 .result < countersMax
 named c =
     let b = c .before .before .before .before .before in
     let k = sym (c .before .before .before .addend-num .ensures .is) ∙ eqb-true _ _ (and-l _ _ (c .if1 .taken)) in

@@ -1,57 +1,42 @@
--- `rolling::cross_counter` meets its contract. The invariant: the addends passed are added, and the sums are in range.
+-- `rolling::cross_counter` meets its contract: a loop that folds the totals over the addends.
 -- Assumes nothing.
-use Prim.Native.Nat.{_≤_, _-_, _+_}
-use mathlib.Core.Path.{_≡_, refl}
-use mathlib.Core.Bool.{true}
+use Prim.Native.Nat.{_-_, _+_}
+use mathlib.Core.List.{[]}
 use native.Mathlib.Omega.{arith}
 use borrow.Author.Needs.{needs}
-use Rattle.counts.specs.Below.{foldBelow}
-use Rattle.counts.proofs.Laws.{fold-next}
 use Rattle.sums.specs.Subtotal.{eachAddend}
-use Rattle.sums.specs.Sums.{sumsOk, Does}
-use Rattle.sums.proofs.Folds.{fold-end}
-use Rattle.sums.proofs.Range.{does-range}
+use Rattle.sums.specs.Sums.{totals}
+use Rattle.sums.proofs.Folds.{Folded, folded-start, folded-step, folded-end}
+use Rattle.sums.proofs.Kept.{range-adds}
 use Rattle.rolling.specs.Rolling.{addSame, crossCounter}
-use Rattle.rolling.proofs.Kept.{range-adds, add-same-keeps}
+use Rattle.rolling.proofs.Kept.{add-same-keeps}
 use Rattle.rolling.proofs.cross_counter.Statement.{statement}
 use Rattle.rolling.proofs.cross_counter.Tie as tie
 
 abbrev Inv-loop : tie.InvT-loop
-Inv-loop t h g k ok sums₀ first n good₀ j₀ sums good j =
-    (j ≤ n) × (Does (foldBelow j (λ i. addSame h t g k (first + i))) ok sums₀ good sums × (sumsOk sums ≡ true))
+Inv-loop t h g k ok sums₀ first n good₀ j₀ sums good j = (shown : _) → Folded (λ i. addSame h t g k (first + i)) n (totals ok sums₀ shown) j (totals good sums shown)
 
 abbrev μ-loop : tie.MeasureT-loop
 μ-loop t h g k ok sums₀ first n good₀ j₀ sums good j = n - j
-
-loop-holds : tie.Need-loop-holds Inv-loop μ-loop
-unfolding foldBelow
-loop-holds c = (omega arith, (λ shown. refl, c .before .before .before .pre .0 .1))
 
 add-same-requires : tie.Need-add-same-requires Inv-loop μ-loop
 add-same-requires c κs =
     let b = c .before .before .before in
     let s = b .before .before .before in
-    let p = s .pre in (
-      (p .0 .0, c .before .before .loop .inv .1 .1),
-      (
-        rw (b .before .counter-num .ensures .is) (p .0 .0 .addends (s .args .k) (c .before .before .loop .j) (p .1) (rw (← b .counter-num2 .ensures .is) (c .before .loop-test .taken))),
-        (p .1, omega arith),
-      ),
-    )
+    let p = s .pre in
+    let a = p .0 .0 .addends (s .args .k) (c .before .before .loop .j) (p .1) (rw (← b .counter-num2 .ensures .is) (c .before .loop-test .taken)) in
+    ((p .0 .0, c .before .before .loop .inv [] .range), (rw (b .before .counter-num .ensures .is) a, (p .1, omega arith)))
 
 loop-again : tie.Need-loop-again Inv-loop μ-loop
-loop-again c =
-    let l = c .before .before .before .loop in
-    let b = c .before .before .before .before .before .before .before in
-    let e = c .add-same .ensures in
-    (omega arith, (λ shown. fold-next _ _ _ (l .inv .1 .0 shown) (e shown), does-range (addSame _ _ _ _ _) (λ a. add-same-keeps _ _ (range-adds _) _ _ _ (b .pre .1)) e (l .inv .1 .1)))
+loop-again c shown =
+    let s = c .before .before .before .before .before .before .before in
+    folded-step (c .before .before .before .loop .inv shown) (c .before .before .loop-test .taken) (add-same-keeps _ _ (range-adds _) _ _ _ (s .pre .1)) (c .add-same .ensures shown)
 
 returns : tie.Need-returns Inv-loop μ-loop
 unfolding crossCounter eachAddend
 returns c shown =
-    let l = c .before .loop in
     let b = c .before .before in
-    rw (← b .before .counter-num .ensures .is) (fold-end _ _ (l .inv .0) (c .loop-test .left) (b .counter-num2 .ensures .is) (l .inv .1 .0 shown))
+    rw (← b .before .counter-num .ensures .is) (folded-end (c .before .loop .inv shown) (c .loop-test .left) (b .counter-num2 .ensures .is))
 
 pub cross-counter-spec : {M : Type 1} → statement M
 cross-counter-spec =
@@ -61,7 +46,7 @@ cross-counter-spec =
     μ-loop
     (λ c κs. search needs)
     (λ c κs. search needs)
-    loop-holds
+    (λ c shown. folded-start (c .before .before .before .pre .0 .1))
     (λ c. omega arith)
     add-same-requires
     (λ c. omega arith)

@@ -2,14 +2,12 @@
 -- Assumes nothing.
 use mathlib.Core.Bool.{_&&_}
 use lib.Dec.{eqb}
-use Prim.Native.Nat.{_≤_, _<_, _-_}
-use mathlib.Core.Path.{_≡_, sym}
+use Prim.Native.Nat.{_≤_, _-_}
+use mathlib.Core.Path.{_≡_}
 use native.Mathlib.Omega.{arith}
 use borrow.Author.Needs.{needs}
-use borrow.Author.Tests.{lt-ltb, le-ltb}
 use Rattle.counts.specs.Below.{firstBelow}
-use Rattle.counts.proofs.Laws.{first-next, first-found}
-use Rattle.tables.specs.Table.{addendCount}
+use Rattle.counts.proofs.Laws.{search-start, search-step, search-some, search-none}
 use Rattle.rolling.specs.Rolling.{namesAt, names}
 use Rattle.rolling.proofs.names.Statement.{statement}
 use Rattle.rolling.proofs.names.Tie as tie
@@ -20,41 +18,15 @@ Inv-loop t h s k first n j₀ j = (j ≤ n) × (j ≡ firstBelow j (namesAt h t 
 abbrev μ-loop : tie.MeasureT-loop
 μ-loop t h s k first n j₀ j = n - j
 
-loop-holds : tie.Need-loop-holds Inv-loop μ-loop
-unfolding firstBelow
-loop-holds c = search needs
-
-returns : tie.Need-returns Inv-loop μ-loop
-unfolding names
-returns c =
-    let b = c .before .before .before .before in
-    let a = b .before .before .before .before .args in
-    let q : (eqb (c .before .before .addend-num .result) 1 && eqb (c .before .addend-num2 .result) (a .k)) ≡ namesAt (a .h) (a .t .now) (a .s) (a .k) (b .loop .j) =
-    rw (c .before .before .addend-num .ensures .is, c .before .addend-num2 .ensures .is, b .before .before .counter-num .ensures .is)
-    in
-    let n = b .before .counter-num2 .ensures .is in
-    let l = c .before .before .before .loop-test .taken in
-    let m : b .loop .j < addendCount (a .h) (a .t .now) (a .s) = rw (← n) l in
-    rw (← first-found (namesAt (a .h) (a .t .now) (a .s) (a .k)) l n (b .loop .inv .1) q (c .if1 .taken)) (sym (lt-ltb _ _ m))
-
-loop-again : tie.Need-loop-again Inv-loop μ-loop
-loop-again c =
-    let b = c .before .before .before .before in
-    let a = b .before .before .before .before .args in
-    let q : (eqb (c .before .before .addend-num .result) 1 && eqb (c .before .addend-num2 .result) (a .k)) ≡ namesAt (a .h) (a .t .now) (a .s) (a .k) (b .loop .j) =
-    rw (c .before .before .addend-num .ensures .is, c .before .addend-num2 .ensures .is, b .before .before .counter-num .ensures .is)
-    in
-    (omega arith, first-next (namesAt (a .h) (a .t .now) (a .s) (a .k)) _ (b .loop .inv .1) q (c .if1 .left))
-
-returns-2 : tie.Need-returns-2 Inv-loop μ-loop
-unfolding names
-returns-2 c =
-    let l = c .before .loop in
-    let n = c .before .before .counter-num2 in
-    let e : l .j ≡ n .result = omega arith in
-    rw (← n .ensures .is, ← e, ← l .inv .1) (sym (le-ltb (l .j) (l .j) (omega arith)))
+-- the test that the code makes of an addend
+this : (c : tie.After-addend-num2 Inv-loop μ-loop) →
+    let l = c .before .before .before in
+    let a = l .before .before .before .before .args in
+    (eqb (c .before .addend-num .result) 1 && eqb (c .addend-num2 .result) (a .k)) ≡ namesAt (a .h) (a .t .now) (a .s) (a .k) (l .loop .j)
+this c = rw (c .before .addend-num .ensures .is, c .addend-num2 .ensures .is, c .before .before .before .before .before .counter-num .ensures .is)
 
 pub names-spec : {M : Type 1} → statement M
+unfolding names
 names-spec =
     tie.close
     (tie.spec
@@ -62,12 +34,12 @@ names-spec =
     μ-loop
     (λ c κs. search needs)
     (λ c κs. search needs)
-    loop-holds
+    (λ c. search-start _ _)
     (λ c. omega arith)
     (λ c κs. omega arith)
     (λ c κs. omega arith)
-    returns
+    (λ c. let b = c .before .before .before .before in search-some _ (c .before .before .before .loop-test .taken) (b .before .counter-num2 .ensures .is) (b .loop .inv .1) (this (c .before)) (c .if1 .taken))
     (λ c. omega arith)
     (λ c. omega arith)
-    loop-again
-    returns-2)
+    (λ c. search-step _ (c .before .before .before .before .loop .inv) (c .before .before .before .loop-test .taken) (this (c .before)) (c .if1 .left))
+    (λ c. search-none _ (c .before .loop .inv) (c .loop-test .left) (c .before .before .counter-num2 .ensures .is)))

@@ -27,16 +27,15 @@ returns c shown =
     rw (← level b, lt-ltb _ _ (c .before .before .before .before .if1 .taken), sym (c .before .before .before .names .ensures) ∙ c .before .before .if2 .taken)
     (rw (toZ-ofZ w64 _ (b .before .before .before .fits .x)) at (c .add-to .ensures shown))
 
-returns-2 : tie.Need-returns-2
-unfolding rollInto
-returns-2 c shown =
-    rw (← level (c .before .before .before), lt-ltb _ _ (c .before .before .if1 .taken), sym (c .before .names .ensures) ∙ c .if2 .left) refl
-
-returns-3 : tie.Need-returns-3
-unfolding rollInto
-returns-3 c shown = rw (← level (c .before), le-ltb _ _ (c .if1 .left)) refl
-
 pub roll-into-spec : {M : Type 1} → statement M
+unfolding rollInto
 roll-into-spec =
     tie.close
-    (tie.spec (λ c κs. search needs) (λ c κs. search needs) (λ c κs. search needs) add-to-requires returns returns-2 returns-3)
+    (tie.spec
+    (λ c κs. search needs)
+    (λ c κs. search needs)
+    (λ c κs. search needs)
+    add-to-requires
+    returns
+    (λ c shown. rw (← level (c .before .before .before), lt-ltb _ _ (c .before .before .if1 .taken), sym (c .before .names .ensures) ∙ c .if2 .left) refl)
+    (λ c shown. rw (← level (c .before), le-ltb _ _ (c .if1 .left)) refl))

@@ -22,13 +22,12 @@ same-value-requires c κs =
     let l = rw (← f .ensures .is) at (b .pre .0 .controls .exists (b .args .j) (b .pre .1) (not-final c)) in
     (field-formed (f .result) l (f .ensures .small) (b .pre .0 .keptFormed), field-formed (f .result) l (f .ensures .small) (b .pre .0 .rowFormed))
 
-returns : tie.Need-returns
-unfolding controlDiffers
-returns c = rw (eq-eqb _ final (sym (c .before .control-num .ensures .is) ∙ c .if1 .taken)) refl
-
-returns-2 : tie.Need-returns-2
-unfolding controlDiffers
-returns-2 c = rw (not-final (c .before), ← c .before .before .control-num .ensures .is) (ap not (c .same-value .ensures))
-
 pub control-differs-spec : {M : Type 1} → statement M
-control-differs-spec = tie.close (tie.spec (λ c κs. search needs) returns same-value-requires returns-2)
+unfolding controlDiffers
+control-differs-spec =
+    tie.close
+    (tie.spec
+    (λ c κs. search needs)
+    (λ c. rw (eq-eqb _ final (sym (c .before .control-num .ensures .is) ∙ c .if1 .taken)) refl)
+    same-value-requires
+    (λ c. rw (not-final (c .before), ← c .before .before .control-num .ensures .is) (ap not (c .same-value .ensures))))

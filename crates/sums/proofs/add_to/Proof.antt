@@ -25,11 +25,8 @@ returns c shown =
     let r = sum-read (c .before .before .before) in
     rw (r, rw r at (sym (c .before .within .ensures) ∙ c .if1 .taken)) refl
 
-returns-2 : tie.Need-returns-2
-unfolding addAt
-returns-2 c shown = rw (rw (sum-read (c .before .before .before)) at (sym (c .before .within .ensures) ∙ c .if1 .left)) refl
-
 pub add-to-spec : {M : Type 1} → statement M
+unfolding addAt
 add-to-spec =
     tie.close
     (tie.spec
@@ -40,4 +37,4 @@ add-to-spec =
     (λ c. search needs)
     (λ c. search needs)
     returns
-    returns-2)
+    (λ c shown. rw (rw (sum-read (c .before .before .before)) at (sym (c .before .within .ensures) ∙ c .if1 .left)) refl))

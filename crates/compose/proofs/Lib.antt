@@ -1,3 +1,0 @@
--- The laws of items and lines.
-pub mod Items
-pub mod Lines

@@ -1,0 +1,25 @@
+-- What printing an item takes for granted of it, and of what it reads.
+use Prim.Native.Nat.{ℕ, _+_, _≤_, _<_}
+use mathlib.Core.Path.{_≡_}
+use mathlib.Core.List.{List}
+use lib.ListN.{length}
+use Rattle.tables.specs.Kinds.{sourceLiteral, sourceField, sourceSum}
+use Rattle.tables.specs.declared.Item.{Item}
+use Rattle.rows.specs.Facts.{FieldFormed}
+use Rattle.item_text.specs.declared.View.{View}
+use Rattle.item_text.specs.Items.{Inputs, applied}
+
+-- an item lies inside a line buffer, and its decimals are few
+pub record Fits (x : Item) (text : List ℕ) : Type 0 where
+  pub column : 1 ≤ x .column
+  pub inside : x .column + x .width ≤ length text + 1
+  pub decimals : x .decimals ≤ 4
+
+-- what an item shows can be read; the line's number is small enough to print as a signed one
+pub record ItemReady (t : List ℕ) (inp : Inputs) (v : View) (x : Item) (text : List ℕ) : Type 0 where
+  pub fits : Fits x text
+  pub kind : x .kind ≤ sourceSum
+  pub literal : x .kind ≡ sourceLiteral → x .index + x .width ≤ length (inp .lits)
+  pub field : x .kind ≡ sourceField → x .index < 65536 → FieldFormed t (applied inp v) (x .index)
+  pub sum : x .kind ≡ sourceSum → x .index < length (inp .sums)
+  pub number : v .line < 68719476736

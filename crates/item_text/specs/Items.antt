@@ -1,0 +1,80 @@
+-- The text of one item. Assumes nothing: these are definitions.
+use Prim.Native.Nat.{ℕ, _-_}
+use mathlib.Core.Bool.{Bool, cond, _&&_, not}
+use mathlib.Core.List.{List}
+use lib.Dec.{eqb}
+use lib.IntN.{ℤ, pos}
+use lib.ListN.{getD, take, drop, replicate}
+use Rattle.splice.specs.Splice.{splice}
+use Rattle.number.specs.Value.{numberOf}
+use Rattle.figures.specs.Number.{numberField, alignLeft}
+use Rattle.tables.specs.Kinds.{kindNumber, sourceLiteral, sourceField, sourcePage, sourceLine}
+use Rattle.tables.specs.declared.Item.{Item}
+use Rattle.tables.specs.Table.{fieldKind}
+use Rattle.rows.specs.Fields.{fieldPart}
+use Rattle.item_text.specs.declared.View.{View}
+
+-- what items read besides the tables: the literal bytes, the kept record, the record in hand, and the sums as their footings show them
+pub record Inputs : Type 0 where
+  pub lits : List ℕ
+  pub kept : List ℕ
+  pub row : List ℕ
+  pub sums : List ℤ
+
+abbrev pub inputs : List ℕ → List ℕ → List ℕ → List ℤ → Inputs
+inputs lits kept row sums = record { lits = lits; kept = kept; row = row; sums = sums }
+
+-- "Control footings, and all that TERMINATE prints, read fields from the kept record; other groups read the record in hand."
+abbrev pub applied : Inputs → View → List ℕ
+applied inp v = cond (v .«from_kept») (inp .kept) (inp .row)
+
+-- the view of another line: on another page, or of the same group
+abbrev pub onPage : View → ℕ → ℕ → View
+onPage v page line = record { page = page; line = line; «from_kept» = v .«from_kept»; flag = v .flag; prefix = v .prefix }
+
+abbrev pub onLine : View → ℕ → View
+onLine v line = onPage v (v .page) line
+
+-- a literal: as many bytes as the item is wide, from an offset on
+abbrev pub literalText : List ℕ → Item → List ℕ
+literalText lits x = take (x .width) (drop (x .index) lits)
+
+-- "Text is left-aligned, cut or padded. Numbers are right-aligned, ..": a field of a record
+unfoldable pub fieldText : List ℕ → List ℕ → Item → List ℕ
+fieldText t rec x =
+    cond (eqb (fieldKind t (x .index)) kindNumber)
+    (numberField (numberOf (fieldPart t rec (x .index))) (x .decimals) (x .width))
+    (alignLeft (x .width) (fieldPart t rec (x .index)))
+
+-- a page or line number
+abbrev pub counterText : ℕ → Item → List ℕ
+counterText n x = numberField (pos n) 0 (x .width)
+
+-- a sum
+abbrev pub sumText : List ℤ → Item → List ℕ
+sumText sums x = numberField (getD sums (x .index) (pos 0)) (x .decimals) (x .width)
+
+-- by source kind: "0 literal, 1 field, 2 page counter, 3 line counter, 4 sum". "A line counter item shows its own line's number."
+unfoldable pub sourceText : List ℕ → Inputs → View → Item → List ℕ
+sourceText t inp v x =
+    cond (eqb (x .kind) sourceLiteral) (literalText (inp .lits) x)
+    (cond (eqb (x .kind) sourceField) (fieldText t (applied inp v) x)
+    (cond (eqb (x .kind) sourcePage) (counterText (v .page) x)
+    (cond (eqb (x .kind) sourceLine) (counterText (v .line) x)
+    (sumText (inp .sums) x))))
+
+-- "An item flagged indicate prints only the first time its detail prints after a control break; else blanks."
+abbrev pub hidden : View → Item → Bool
+hidden v x = eqb (x .flag) 1 && not (v .flag)
+
+-- the bytes of an item, as many as its width
+unfoldable pub itemText : List ℕ → Inputs → View → Item → List ℕ
+itemText t inp v x = cond (hidden v x) (replicate (x .width) 32) (sourceText t inp v x)
+
+-- a line with bytes written at an item's column; columns count from 1
+abbrev pub atColumn : Item → List ℕ → List ℕ → List ℕ
+atColumn x bytes text = splice text (x .column - 1) bytes
+
+-- a line with an item written at its column
+abbrev pub withItem : List ℕ → Inputs → View → Item → List ℕ → List ℕ
+withItem t inp v x text = atColumn x (itemText t inp v x) text
