@@ -69,8 +69,8 @@ pub record Laws (h : Head) (t : List ℕ) : Type 0 where
   pub idle-ok : (s : State) → s .phase ≡ 0 → IdleFacts h s → stateOk h t s ≡ true
   pub started-ok : stateOk h t (freshAt 1) ≡ true
   pub phase-listed : (s : State) → stateOk h t s ≡ true → s .phase ≤ 2
-  pub first-sums : (row : List ℕ) (d : ℕ) (sums : List ℤ) → GoodSums (h .counters) sums → GoodSums (h .counters) (totalsFirst h t row d sums .sums)
-  pub later-sums : (row : List ℕ) (d b : ℕ) (sums : List ℤ) → GoodSums (h .counters) sums → GoodSums (h .counters) (totalsLater h t row d b sums .sums)
+  pub first-sums : (row : List ℕ) (detail : ℕ) (sums : List ℤ) → GoodSums (h .counters) sums → GoodSums (h .counters) (totalsFirst h t row detail sums .sums)
+  pub later-sums : (row : List ℕ) (detail b : ℕ) (sums : List ℤ) → GoodSums (h .counters) sums → GoodSums (h .counters) (totalsLater h t row detail b sums .sums)
   pub last-sums : (sums : List ℤ) → GoodSums (h .counters) sums → GoodSums (h .counters) (totalsLast h t sums .sums)
   pub zero-sums : GoodSums (h .counters) (freshAt 1 .sums)
   pub padded-formed : (row : List ℕ) → length row ≡ h .reclen → formed h t row ≡ true → formed h t (paddedRow row) ≡ true

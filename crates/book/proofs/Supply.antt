@@ -71,8 +71,8 @@ module _ (h : Head) (t lits : List ℕ) (A : Accepted h t lits) where
     idle-ok = idle-ok';
     started-ok = started-ok h t;
     phase-listed = λ s k. by-phase h t s k (λ e. omega arith) (λ e. omega arith) (λ e. omega arith);
-    first-sums = λ row d sums g. first-good h t (A .countersIn .few) sums g row d .sums;
-    later-sums = λ row d b sums g. later-good h t (A .countersIn .few) sums g row d b .sums;
+    first-sums = λ row detail sums g. first-good h t (A .countersIn .few) sums g row detail .sums;
+    later-sums = λ row detail b sums g. later-good h t (A .countersIn .few) sums g row detail b .sums;
     last-sums = λ sums g. last-good h t (A .countersIn .few) sums g .sums;
     zero-sums = zeros-good (h .counters);
     padded-formed = λ row l e. padded-formed row (A .fieldsIn) (omega arith) ∙ e;
