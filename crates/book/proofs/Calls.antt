@@ -1,14 +1,14 @@
 -- INITIATE, GENERATE and TERMINATE against the book: the state's place is the book's, and its kept record has the control values of the book's row.
--- Assumes nothing but the laws in `Laws`, which `Demand` supplies.
-use Prim.Native.Nat.{ℕ, zero, suc, _≤_, _<_}
+-- Assumes nothing.
+use Prim.Native.Nat.{ℕ, suc, _≤_, _<_}
 use mathlib.Core.Path.{_≡_, refl, sym, ap, _∙_}
-use mathlib.Core.Bool.{Bool, true, false}
+use mathlib.Core.Bool.{Bool, true, false, false≢true}
 use mathlib.Core.List.{List}
 use mathlib.Core.Logic.{inl, inr, ⊎-elim}
 use mathlib.Core.Option.{none, some}
 use native.Mathlib.Omega.{arith}
-use borrow.Author.Tests.{ltb-true, ltb-false, eqb-true, eqb-false, not-false}
-use lib.Dec.{ltb, eqb}
+use borrow.Author.Tests.{ltb-false, eqb-true, eqb-false}
+use lib.Dec.{eqb}
 use lib.IntN.{pos}
 use lib.ListN.{length, getD, set}
 use Rattle.counts.proofs.Laws.{by-test, by-cond}
@@ -18,288 +18,206 @@ use Rattle.tables.specs.Table.{lineCount, table, literals}
 use Rattle.lookup.specs.Find.{theDetail, details}
 use Rattle.description.specs.declared.Checked.the-variants.{Accepted}
 use Rattle.description.specs.Check.{checked}
+use Rattle.description.specs.Refusal.{number as numberChecked}
 use Rattle.accepted.specs.Accepted as facts
-use Rattle.rows.specs.Fields.{formed, firstMalformed}
+use Rattle.rows.specs.Fields.{formed}
 use Rattle.rows.specs.Breaks.{breakLevel, SameControls}
-use Rattle.rows.proofs.Fields.{first-malformed}
 use Rattle.rows.proofs.Breaks.{break-values, break-none}
 use Rattle.sums.proofs.Range.{getD-set}
-use Rattle.amounts.specs.Totals.{totalsLast}
-use Rattle.compose.specs.Facts.{ItemsIn}
-use Rattle.plan.specs.Plan.{firstPlan, laterPlan, lastPlan}
+use Rattle.amounts.proofs.Good.{GoodSums, first-good, later-good, last-good}
+use Rattle.plan.specs.Plan.{lastPlan}
 use Rattle.layout.specs.declared.Pos.{Pos}
 use Rattle.layout.specs.Layout.{layout}
 use Rattle.place.specs.Place.{lastPage}
-use Rattle.call_text.specs.Bytes.{Reading}
-use Rattle.call_text.proofs.Bytes.{in-layout}
+use Rattle.place.specs.Rules.{Running}
+use Rattle.shape.specs.Shape.{frameOf}
+use Rattle.call_text.proofs.Bytes.{GroupsIn, in-layout}
 use Rattle.printed.specs.Printed.{Short}
 use Rattle.printed.proofs.Laws.{no-prefix-short}
 use Rattle.pagination.specs.Rising.{rank}
 use Rattle.pagination.specs.Claims.{rankAt, LaidRunning, LaidClosed}
 use Rattle.pagination.proofs.Groups.{sound-none}
 use Rattle.pagination.proofs.Calls.{DetailOk, first-placed, later-placed, last-placed, detail-is}
-use Rattle.state.specs.State.{idle, started, running}
-use Rattle.state.specs.Kept.{flagsSet}
+use Rattle.state.specs.State.{idle, started, running, sumCount, flagCount, keptSize, freshAt}
+use Rattle.state.specs.Kept.{paddedRow, flagsSet}
+use Rattle.state.proofs.Kept.{padded-zero, padded-formed, padded-controls, flagsSet-beyond}
 use Rattle.state.specs.declared.State.{State}
-use Rattle.verdict.specs.declared.Verdict.{Verdict}
 use Rattle.verdict.specs.declared.Verdict.the-variants as verdict
-use Rattle.verdict.specs.Verdict.{number}
-use Rattle.state.specs.State.{freshAt}
 use Rattle.state_rules.specs.Rules.{stateOk}
-use Rattle.answer.specs.Result.{placeOf, refuse}
+use Rattle.state_rules.specs.Facts.{PageIn, RunningState}
+use Rattle.state_rules.proofs.States.{fresh-ok, started-ok, idle-facts, idle-ok, running-facts, running-ok}
+use Rattle.refusals.specs.Facts.{Begun, RowIn}
+use Rattle.refusals.proofs.Stages.{running-else}
+use Rattle.answer.specs.Result.{placeOf}
 use Rattle.work.specs.Work.{Work, moved, settled}
+use Rattle.work.proofs.Ready.{zeros-good, good-sums}
 use Rattle.work.specs.Rows.{cleared, firstWork, flagsAt, breaks, laterWork, rowWork, lastWork}
-use Rattle.calls.specs.Calls.{begun, ended, callOn}
-use Rattle.refusals.specs.Stages.{recordTried}
-use Rattle.report.specs.Calls as calls
-use Rattle.book.specs.Book.{Call, initiate, generate, terminate, Book, freshPos, freshBook, dueFor, turned, enter}
+use Rattle.calls.specs.Calls.{begun, ended}
+use Rattle.book.specs.Book.{Call, initiate, generate, terminate, Book, freshPos, dueFor, turned, enter}
 use Rattle.book.specs.Sheet.{sheetOf}
 use Rattle.book.specs.Demand.{answer, reads}
-use Rattle.book.proofs.Laws.{Laws, RunFacts, IdleFacts, FlagsEnd, good-sums}
-use Rattle.amounts.proofs.Good.{GoodSums}
 use Rattle.book.proofs.Moves.{moves-none}
+use Rattle.book.proofs.Branches.{each-call}
 use Rattle.book.proofs.Step.{Ok, refused-ok, settled-ok}
 
-two : (n : ℕ) → n ≤ 2 → (n ≡ 0 → ⊥) → (n ≡ 1 → ⊥) → n ≡ 2
-two zero l a b = absurd (a refl)
-two (suc zero) l a b = absurd (b refl)
-two (suc (suc zero)) l a b = refl
-two (suc (suc (suc n))) l a b = absurd (omega arith)
-
-module _ (d : List ℕ) (accepts : checked d ≡ Accepted) (A : facts.Accepted (headOf d) (table d) (literals d)) (L : Laws (headOf d) (table d)) where
+module _ (d : List ℕ) (accepts : checked d ≡ Accepted) (A : facts.Accepted (headOf d) (table d) (literals d)) where
   abbrev h : Head
   h = headOf d
 
   abbrev t : List ℕ
   t = table d
 
+  page-in : PageIn h
+  page-in = record { body = omega (arith, A .pageFits .fdLd, A .pageFits .ldFt); foot = A .pageFits .ftPage; short = A .pageFits .page999 }
+
   -- what is carried from call to call
   pub record Tracks (s : State) (b : Book) : Type 0 where
     pub kept : stateOk h t s ≡ true
-    pub sumsLong : length (s .sums) ≡ 32
+    pub sumsLong : length (s .sums) ≡ sumCount
     pub place : b .pos ≡ placeOf s
-    pub begins : s .phase ≡ 1 → (s ≡ freshAt 1) × (b .row ≡ none)
-    pub goes : s .phase ≡ 2 → (old : List ℕ) × (b .row ≡ some old) × SameControls h t (s .kept) old
+    pub begins : s .phase ≡ started → (s ≡ freshAt started) × (b .row ≡ none)
+    pub goes : s .phase ≡ running → (old : List ℕ) × (b .row ≡ some old) × SameControls h t (s .kept) old
 
-  begun-tracks : (b : Book) → b .pos ≡ freshPos → b .row ≡ none → Tracks (freshAt 1) b
-  begun-tracks b p r = record { kept = L .started-ok; sumsLong = L .zero-sums .long; place = p; begins = λ e. (refl, r); goes = λ e. absurd (omega arith) }
+  idle-tracks : (s : State) (b : Book) → s .phase ≡ idle → stateOk h t s ≡ true → length (s .sums) ≡ sumCount → b .pos ≡ placeOf s → Tracks s b
+  idle-tracks s b e k n p = record { kept = k; sumsLong = n; place = p; begins = λ q. absurd (omega arith); goes = λ q. absurd (omega arith) }
 
-  idle-tracks : (s : State) (b : Book) → s .phase ≡ 0 → IdleFacts h s → length (s .sums) ≡ 32 → b .pos ≡ placeOf s → Tracks s b
-  idle-tracks s b e f n p = record { kept = L .idle-ok s e f; sumsLong = n; place = p; begins = λ q. absurd (omega arith); goes = λ q. absurd (omega arith) }
+  pub fresh-tracks : (b : Book) → b .pos ≡ freshPos → Tracks (freshAt idle) b
+  fresh-tracks b p = idle-tracks (freshAt idle) b refl (fresh-ok h t) (zeros-good 0 .long) p
 
-  -- the fresh state
-  fresh-idle : IdleFacts h (freshAt 0)
-  fresh-idle = record { page1 = omega arith; page2 = omega arith; line = omega arith; saved = omega arith; sumsIn = L .zero-sums .range }
-
-  pub fresh-tracks : Tracks (freshAt 0) freshBook
-  fresh-tracks = idle-tracks (freshAt 0) freshBook refl fresh-idle (L .zero-sums .long) refl
+  spot-in : {s : State} → RunningState h t s → Running (frameOf h t) (placeOf s .spot)
+  unfolding frameOf
+  spot-in f = record { body = f .body; fresh = f .noBody; kept = f .saving }
 
   module _ (s : State) (b : Book) (T : Tracks s b) (out : List ℕ) where
     -- ---- INITIATE
-    idle-climb : s .phase ≡ 0 → rankAt (b .report) (b .pos) ≤ rank (suc (b .report)) 1 0
-    idle-climb e = let f = L .idle-facts s e (T .kept) in rw (T .place) (omega (arith, f .page2, f .line, A .pageFits .page999))
+    idle-climb : s .phase ≡ idle → rankAt (b .report) (b .pos) ≤ rank (suc (b .report)) 1 0
+    idle-climb e = let f = idle-facts h t s e (T .kept) in rw (T .place) (omega (arith, f .last, f .onPage, A .pageFits .page999))
 
-    initiate-begins : s .phase ≡ 0 → Ok d Tracks s b initiate (reads d s initiate) (begun out)
+    initiate-begins : s .phase ≡ idle → Ok d Tracks s b initiate (reads d s initiate) (begun out)
     unfolding enter sheetOf
     initiate-begins e = record {
       fine = inl refl;
       bytes = refl;
       sound = sound-none h t (b .report) (rankAt (b .report) (b .pos)) (rank (suc (b .report)) 1 0) (idle-climb e);
       pages = tt;
-      moves = moves-none h t s b (freshAt 1) (record { report = suc (b .report); row = none; pos = freshPos }) (omega arith) (λ l. refl) (λ u w m q. absurd (omega arith));
-      next = begun-tracks (record { report = suc (b .report); row = none; pos = freshPos }) refl refl;
+      moves = moves-none h t s b (freshAt started) (record { report = suc (b .report); row = none; pos = freshPos }) (omega arith) (λ l. refl) (λ u w m q. absurd (omega arith));
+      next = record { kept = started-ok h t; sumsLong = zeros-good 0 .long; place = refl; begins = λ e. (refl, refl); goes = λ e. absurd (omega arith) };
     }
 
-    pub initiate-ok : Ok d Tracks s b initiate (reads d s initiate) (answer d s initiate out)
-    unfolding calls.call callOn
-    initiate-ok =
-        rw (accepts, T .kept)
-        (by-test (eqb (s .phase) idle)
-        (λ e. rw e (initiate-begins (eqb-true (s .phase) 0 e)))
-        (λ e. rw e (refused-ok d Tracks b initiate (reads d s initiate) s out T verdict.Phase (omega arith) (omega arith) refl)))
-
     -- ---- GENERATE
-    module _ (i : ℕ) (row : List ℕ) (there : theDetail h t i < h .groups) (long : length row ≡ h .reclen) (good : formed h t row ≡ true) where
+    module _ (detail : ℕ) (row : List ℕ) (R : RowIn h t detail row) where
       abbrev call : Call
-      call = generate i row
+      call = generate detail row
 
-      detail-ok : DetailOk h t (b .report) (A .pageFits) (theDetail h t i)
-      detail-ok p = detail-is h t i there
+      detail-ok : DetailOk h t (b .report) (A .pageFits) (theDetail h t detail)
+      detail-ok p = detail-is h t detail (R .named)
 
-      flags-end : (flags : List Bool) → FlagsEnd h t flags → FlagsEnd h t (cleared h t i flags)
+      -- flags beyond the details, and a record that a state may keep of the row
+      abbrev FlagsEnd : List Bool → Type 0
+      FlagsEnd flags = (i : ℕ) → details h t ≤ i → i < flagCount → getD flags i false ≡ false
+
+      flags-end : (flags : List Bool) → FlagsEnd flags → FlagsEnd (cleared h t detail flags)
       flags-end flags f k l m =
-          by-cond (λ x. getD x k false ≡ false) (eqb (lineCount h t (theDetail h t i)) 0) (λ e. f k l m)
-          (λ e. ⊎-elim (λ (q : getD (set flags i false) k false ≡ false). q) (λ (q : getD (set flags i false) k false ≡ getD flags k false). q ∙ f k l m) (getD-set flags i k false false))
+          by-cond (λ x. getD x k false ≡ false) (eqb (lineCount h t (theDetail h t detail)) 0) (λ e. f k l m)
+          (λ e. ⊎-elim (λ (q : getD (set flags detail false) k false ≡ false). q) (λ (q : getD (set flags detail false) k false ≡ getD flags k false). q ∙ f k l m) (getD-set flags detail k false false))
+
+      record Keeps (kept : List ℕ) : Type 0 where
+        good : formed h t kept ≡ true
+        beyond : (i : ℕ) → h .reclen ≤ i → i < keptSize → getD kept i 0 ≡ 0
+        same : SameControls h t kept row
+
+      padded-keeps : Keeps (paddedRow row)
+      padded-keeps = record {
+        good = padded-formed row (A .fieldsIn) (omega (arith, R .long)) ∙ R .good;
+        beyond = λ i m n. padded-zero row i (omega (arith, R .long)) n;
+        same = padded-controls row (A .fieldsIn) (omega (arith, R .long)) (A .controlsIn);
+      }
+
+      -- a row's work that leaves a running state
+      record Runs (w : Work) : Type 0 where
+        laid : w .laid ≡ dueFor h t (b .row) call (b .pos)
+        groups : GroupsIn h (w .laid .dues)
+        placed : LaidRunning h t (b .report) (placeOf s) (w .laid)
+        first : 1 ≤ s .page
+        busy : s .phase ≡ idle → ⊥
+        phase : w .phase ≡ running
+        sums : GoodSums (h .counters) (w .sums)
+        flags : FlagsEnd (w .flags)
+        keeps : Keeps (w .kept)
+        lits : w .inputs .lits ≡ literals d
+        prefix : Short (w .inputs .prefix)
+
+      row-runs : (w : Work) → Runs w → Ok d Tracks s b call (w .inputs) (settled h t s w out)
+      unfolding frameOf
+      row-runs w m =
+          settled-ok d Tracks b call s out T w (m .laid) (rw (m .lits) (A .itemsIn)) (m .prefix) (m .groups) (rw (T .place) (m .placed .sound)) refl refl (m .busy) (rw (T .place) (m .first)) _ (rw (T .place) (m .placed .paged)) (inr refl)
+          (λ l. record {
+            kept = running-ok h t (moved w (w .laid .to)) page-in (m .phase)
+                (record {
+                  first = omega (arith, m .placed .pages, m .first);
+                  last = l;
+                  inRange = m .sums .range;
+                  body = m .placed .running .body;
+                  noBody = m .placed .running .fresh;
+                  saving = m .placed .running .kept;
+                  beyondSums = λ i k _. m .sums .beyond i k;
+                  beyondFlags = m .flags;
+                  formed = m .keeps .good;
+                  beyondRow = m .keeps .beyond;
+                });
+            sumsLong = m .sums .long;
+            place = refl;
+            begins = λ q. absurd (omega (arith, m .phase));
+            goes = λ q. (row, refl, m .keeps .same);
+          })
 
       -- the first row of a report
-      module _ (e : s .phase ≡ 1) where
-        abbrev w1 : Work
-        w1 = firstWork h t (literals d) s i row
+      first-runs : s .phase ≡ started → Runs (firstWork h t (literals d) s detail row)
+      unfolding firstWork
+      first-runs e =
+          let fresh = T .begins e .0 in
+          let page : s .page ≡ 1 = ap (λ (x : State). x .page) fresh in
+          record {
+            laid = rw (T .begins e .1, T .place) refl;
+            groups = in-layout h t _ _;
+            placed = first-placed h t (b .report) (A .pageFits) (theDetail h t detail) (placeOf s) detail-ok page (ap (λ (x : State). x .line) fresh);
+            first = omega arith;
+            busy = λ q. absurd (omega arith);
+            phase = refl;
+            sums = first-good h t (A .countersIn .few) (s .sums) (rw fresh (zeros-good (h .counters))) row detail .sums;
+            flags = flags-end (flagsSet (details h t)) (flagsSet-beyond (details h t));
+            keeps = padded-keeps;
+            lits = refl;
+            prefix = no-prefix-short;
+          }
 
-        fresh : s ≡ freshAt 1
-        fresh = T .begins e .0
+      -- a later row; the book finds the break against its own row, and without a break the kept record has the row's control values already
+      later-runs : s .phase ≡ running → Runs (laterWork h t (literals d) s detail row)
+      unfolding laterWork
+      later-runs e =
+          let f = running-facts h t s e (T .kept) in
+          let level = breakLevel h t (s .kept) row in
+          record {
+            laid = rw (T .goes e .1, T .place, ← break-values row (T .goes e .2)) refl;
+            groups = in-layout h t _ _;
+            placed = later-placed h t (b .report) (A .pageFits) level (theDetail h t detail) (placeOf s) detail-ok (spot-in f);
+            first = f .first;
+            busy = λ q. absurd (omega arith);
+            phase = refl;
+            sums = later-good h t (A .countersIn .few) (s .sums) (good-sums f (T .sumsLong)) row detail level .sums;
+            flags = flags-end (flagsAt h t level (s .flags)) (by-cond FlagsEnd (breaks h level) (λ q. flagsSet-beyond (details h t)) (λ q. f .beyondFlags));
+            keeps = by-cond Keeps (breaks h level) (λ q. padded-keeps) (λ q. record { good = f .formed; beyond = f .beyondRow; same = break-none (s .kept) row (ltb-false level (h .controls) q) });
+            lits = refl;
+            prefix = no-prefix-short;
+          }
 
-        laid1 : w1 .laid ≡ layout h t (firstPlan h (theDetail h t i)) (placeOf s)
-        unfolding firstWork
-        laid1 = refl
-
-        placed1 : LaidRunning h t (b .report) (placeOf s) (w1 .laid)
-        placed1 = rw laid1 (first-placed h t (b .report) (A .pageFits) (theDetail h t i) (placeOf s) detail-ok (ap (λ (x : State). x .page) fresh) (ap (λ (x : State). x .line) fresh))
-
-        same1 : w1 .laid ≡ dueFor h t (b .row) call (b .pos)
-        same1 = rw (T .begins e .1, T .place) laid1
-
-        run1 : w1 .laid .to .page ≤ lastPage → RunFacts h t (moved w1 (w1 .laid .to))
-        unfolding firstWork
-        run1 l =
-            let z = L .first-sums row i (s .sums) (rw fresh (L .zero-sums)) in
-            record {
-              page1 = omega (arith, placed1 .pages, ap (λ (x : State). x .page) fresh);
-              page2 = l;
-              spot = placed1 .running;
-              sumsIn = z .range;
-              sumsEnd = λ k l m. z .beyond k l;
-              flagsEnd = flags-end (flagsSet (details h t)) (L .set-end);
-              keptFormed = L .padded-formed row long good;
-              keptEnd = L .padded-end row long;
-            }
-
-        phase1 : w1 .phase ≡ 2
-        unfolding firstWork
-        phase1 = refl
-
-        kept1 : SameControls h t (w1 .kept) row
-        unfolding firstWork
-        kept1 = L .padded-same row long
-
-        long1 : length (w1 .sums) ≡ 32
-        unfolding firstWork
-        long1 = L .first-sums row i (s .sums) (rw fresh (L .zero-sums)) .long
-
-        next1 : w1 .ok ≡ true → w1 .laid .to .page ≤ lastPage → Tracks (moved w1 (w1 .laid .to)) (turned h t b call (w1 .laid))
-        next1 o l = record {
-          kept = L .run-ok (moved w1 (w1 .laid .to)) phase1 (run1 l);
-          sumsLong = long1;
-          place = refl;
-          begins = λ q. absurd (omega (arith, phase1));
-          goes = λ q. (row, refl, kept1);
-        }
-
-        short1 : Short (w1 .inputs .prefix)
-        unfolding firstWork
-        short1 = no-prefix-short
-
-        items1 : ItemsIn h t (w1 .inputs .lits)
-        unfolding firstWork
-        items1 = A .itemsIn
-
-        pub first-ok : Ok d Tracks s b call (w1 .inputs) (settled h t s w1 out)
-        first-ok = settled-ok d Tracks b call (w1 .inputs) s out T w1 same1 refl items1 short1 (rw laid1 (in-layout h t (firstPlan h (theDetail h t i)) (placeOf s))) (rw (T .place) (placed1 .sound)) refl refl
-            (λ q. absurd (omega arith)) (rw (T .place) (omega (arith, ap (λ (x : State). x .page) fresh))) _ (rw (T .place) (placed1 .paged)) (inr refl) next1
-
-      -- a later row
-      module _ (e : s .phase ≡ 2) where
-        abbrev w2 : Work
-        w2 = laterWork h t (literals d) s i row
-
-        facts2 : RunFacts h t s
-        facts2 = L .run-facts s e (T .kept)
-
-        abbrev old : List ℕ
-        old = T .goes e .0
-
-        abbrev level : ℕ
-        level = breakLevel h t (s .kept) row
-
-        laid2 : w2 .laid ≡ layout h t (laterPlan h level (theDetail h t i)) (placeOf s)
-        unfolding laterWork
-        laid2 = refl
-
-        placed2 : LaidRunning h t (b .report) (placeOf s) (w2 .laid)
-        placed2 = rw laid2 (later-placed h t (b .report) (A .pageFits) level (theDetail h t i) (placeOf s) detail-ok (facts2 .spot))
-
-        -- the book finds the break against its own row
-        same2 : w2 .laid ≡ dueFor h t (b .row) call (b .pos)
-        same2 = rw (T .goes e .1, T .place, ← break-values row (T .goes e .2)) laid2
-
-        flags2 : FlagsEnd h t (flagsAt h t level (s .flags))
-        flags2 k l m = by-cond (λ x. getD x k false ≡ false) (breaks h level) (λ q. L .set-end k l m) (λ q. facts2 .flagsEnd k l m)
-
-        run2 : w2 .laid .to .page ≤ lastPage → RunFacts h t (moved w2 (w2 .laid .to))
-        unfolding laterWork
-        run2 l =
-            let z = L .later-sums row i level (s .sums) (good-sums (h .counters) (s .sums) (facts2 .sumsIn) (T .sumsLong) (facts2 .sumsEnd)) in
-            record {
-              page1 = omega (arith, placed2 .pages, facts2 .page1);
-              page2 = l;
-              spot = placed2 .running;
-              sumsIn = z .range;
-              sumsEnd = λ k l m. z .beyond k l;
-              flagsEnd = flags-end (flagsAt h t level (s .flags)) flags2;
-              keptFormed = by-cond (λ x. formed h t x ≡ true) (breaks h level) (λ q. L .padded-formed row long good) (λ q. facts2 .keptFormed);
-              keptEnd = λ k m n. by-cond (λ (x : List ℕ). getD x k 0 ≡ 0) (breaks h level) (λ q. L .padded-end row long k m n) (λ q. facts2 .keptEnd k m n);
-            }
-
-        phase2 : w2 .phase ≡ 2
-        unfolding laterWork
-        phase2 = refl
-
-        -- without a break the kept record has the row's control values already
-        kept2 : SameControls h t (w2 .kept) row
-        unfolding laterWork
-        kept2 = by-cond (λ x. SameControls h t x row) (breaks h level) (λ q. L .padded-same row long) (λ q. break-none (s .kept) row (ltb-false level (h .controls) q))
-
-        long2 : length (w2 .sums) ≡ 32
-        unfolding laterWork
-        long2 = L .later-sums row i level (s .sums) (good-sums (h .counters) (s .sums) (facts2 .sumsIn) (T .sumsLong) (facts2 .sumsEnd)) .long
-
-        next2 : w2 .ok ≡ true → w2 .laid .to .page ≤ lastPage → Tracks (moved w2 (w2 .laid .to)) (turned h t b call (w2 .laid))
-        next2 o l = record {
-          kept = L .run-ok (moved w2 (w2 .laid .to)) phase2 (run2 l);
-          sumsLong = long2;
-          place = refl;
-          begins = λ q. absurd (omega (arith, phase2));
-          goes = λ q. (row, refl, kept2);
-        }
-
-        short2 : Short (w2 .inputs .prefix)
-        unfolding laterWork
-        short2 = no-prefix-short
-
-        items2 : ItemsIn h t (w2 .inputs .lits)
-        unfolding laterWork
-        items2 = A .itemsIn
-
-        pub later-ok : Ok d Tracks s b call (w2 .inputs) (settled h t s w2 out)
-        later-ok = settled-ok d Tracks b call (w2 .inputs) s out T w2 same2 refl items2 short2 (rw laid2 (in-layout h t (laterPlan h level (theDetail h t i)) (placeOf s))) (rw (T .place) (placed2 .sound)) refl refl
-            (λ q. absurd (omega arith)) (rw (T .place) (facts2 .page1)) _ (rw (T .place) (placed2 .paged)) (inr refl) next2
-
-      -- the row's work, by phase
-      row-ok : (eqb (s .phase) idle ≡ false) → Ok d Tracks s b call (rowWork h t (literals d) s i row .inputs) (settled h t s (rowWork h t (literals d) s i row) out)
-      row-ok n =
-          by-test (eqb (s .phase) started)
-          (λ e. rw e (first-ok (eqb-true (s .phase) 1 e)))
-          (λ e. rw e (later-ok (two (s .phase) (L .phase-listed s (T .kept)) (eqb-false (s .phase) 0 n) (eqb-false (s .phase) 1 e))))
-
-    no-ok : (c : Call) (reading : Reading) (v : Verdict) → 3 ≤ number v → number v ≤ 9 → eqb (number v) 0 ≡ false → Ok d Tracks s b c reading (refuse s out v)
-    no-ok c reading v l m e = refused-ok d Tracks b c reading s out T v l m e
-
-    pub generate-ok : (i : ℕ) (row : List ℕ) → Ok d Tracks s b (generate i row) (reads d s (generate i row)) (answer d s (generate i row) out)
-    unfolding calls.call callOn recordTried
-    generate-ok i row =
-        rw (accepts, T .kept)
-        (by-test (eqb (s .phase) idle)
-        (λ n. rw n (no-ok (generate i row) _ verdict.Phase (omega arith) (omega arith) refl))
-        (λ n. by-test (ltb (theDetail h t i) (h .groups))
-        (λ g. by-test (eqb (length row) (h .reclen))
-        (λ l. by-test (ltb (firstMalformed h t row) (h .fields))
-        (λ f. rw (n, g, l, f) (no-ok (generate i row) _ (verdict.Field (firstMalformed h t row)) (omega arith) (omega arith) refl))
-        (λ f. rw (n, g, l, f) (row-ok i row (ltb-true (theDetail h t i) (h .groups) g) (eqb-true (length row) (h .reclen) l) (not-false (formed h t row) (sym (first-malformed h t row) ∙ f)) n)))
-        (λ l. rw (n, g, l) (no-ok (generate i row) _ verdict.Length (omega arith) (omega arith) refl)))
-        (λ g. rw (n, g) (no-ok (generate i row) _ verdict.Detail (omega arith) (omega arith) refl))))
+      row-ok : Begun h t s → Ok d Tracks s b call (rowWork h t (literals d) s detail row .inputs) (settled h t s (rowWork h t (literals d) s detail row) out)
+      row-ok g =
+          by-test (eqb (s .phase) started) (λ e. rw e (row-runs _ (first-runs (eqb-true (s .phase) started e))))
+          (λ e. rw e (row-runs _ (later-runs (running-else h t s g (eqb-false (s .phase) started e)))))
 
     -- ---- TERMINATE
-    started-ends : s .phase ≡ 1 → Ok d Tracks s b terminate (reads d s terminate) (ended out)
+    started-ends : s .phase ≡ started → Ok d Tracks s b terminate (reads d s terminate) (ended out)
     unfolding enter sheetOf
     started-ends e =
         let r = T .begins e in
@@ -308,74 +226,55 @@ module _ (d : List ℕ) (accepts : checked d ≡ Accepted) (A : facts.Accepted (
           bytes = rw (r .1) refl;
           sound = rw (r .1) (sound-none h t (b .report) (rankAt (b .report) (b .pos)) (rankAt (b .report) (b .pos)) (omega arith));
           pages = rw (r .1) tt;
-          moves = rw (r .1) (moves-none h t s (record { report = b .report; row = none; pos = b .pos }) (freshAt 0) (record { report = b .report; row = none; pos = b .pos }) (omega arith) (λ l. absurd (omega arith)) (λ u w m q. inl refl));
-          next = rw (r .1) (idle-tracks (freshAt 0) _ refl fresh-idle (L .zero-sums .long) (T .place ∙ ap placeOf (r .0)));
+          moves = rw (r .1) (moves-none h t s (record { report = b .report; row = none; pos = b .pos }) (freshAt idle) (record { report = b .report; row = none; pos = b .pos }) (omega arith) (λ l. absurd (omega arith)) (λ u w m q. inl refl));
+          next = rw (r .1) (fresh-tracks _ (T .place ∙ ap placeOf (r .0)));
         }
 
-    module _ (e : s .phase ≡ 2) where
+    module _ (e : s .phase ≡ running) where
       abbrev w3 : Work
       w3 = lastWork h t (literals d) s
 
-      facts3 : RunFacts h t s
-      facts3 = L .run-facts s e (T .kept)
+      facts3 : RunningState h t s
+      facts3 = running-facts h t s e (T .kept)
 
       laid3 : w3 .laid ≡ layout h t (lastPlan h) (placeOf s)
       unfolding lastWork
       laid3 = refl
 
       closed3 : LaidClosed h t (b .report) (placeOf s) (w3 .laid)
-      closed3 = rw laid3 (last-placed h t (b .report) (A .pageFits) (placeOf s) (facts3 .spot))
+      closed3 = rw laid3 (last-placed h t (b .report) (A .pageFits) (placeOf s) (spot-in facts3))
 
-      phase3 : w3 .phase ≡ 0
+      next3 : w3 .laid .to .page ≤ lastPage → Tracks (moved w3 (w3 .laid .to)) (turned h t b terminate (w3 .laid))
       unfolding lastWork
-      phase3 = refl
+      next3 l =
+          let z = last-good h t (A .countersIn .few) (s .sums) (good-sums facts3 (T .sumsLong)) .sums in
+          idle-tracks _ _ refl
+          (idle-ok h t _ refl (record {
+            first = omega (arith, closed3 .pages, facts3 .first);
+            last = l;
+            onPage = closed3 .line;
+            small = omega (arith, closed3 .saved, A .pageFits .ftPage, A .pageFits .page999);
+            inRange = z .range;
+          }))
+          (z .long) refl
 
-      same3 : w3 .laid ≡ dueFor h t (b .row) terminate (b .pos)
-      same3 = rw (T .goes e .1, T .place) laid3
-
-      last3 : GoodSums (h .counters) (totalsLast h t (s .sums) .sums)
-      last3 = L .last-sums (s .sums) (good-sums (h .counters) (s .sums) (facts3 .sumsIn) (T .sumsLong) (facts3 .sumsEnd))
-
-      idle3 : w3 .laid .to .page ≤ lastPage → IdleFacts h (moved w3 (w3 .laid .to))
+      last-ok : Ok d Tracks s b terminate (w3 .inputs) (settled h t s w3 out)
       unfolding lastWork
-      idle3 l = record {
-        page1 = omega (arith, closed3 .pages, facts3 .page1);
-        page2 = l;
-        line = closed3 .line;
-        saved = omega (arith, closed3 .saved, A .pageFits .ftPage, A .pageFits .page999);
-        sumsIn = last3 .range;
-      }
-
-      long3 : length (w3 .sums) ≡ 32
-      unfolding lastWork
-      long3 = last3 .long
-
-      short3 : Short (w3 .inputs .prefix)
-      unfolding lastWork
-      short3 = no-prefix-short
-
-      items3 : ItemsIn h t (w3 .inputs .lits)
-      unfolding lastWork
-      items3 = A .itemsIn
-
-      pub last-ok : Ok d Tracks s b terminate (w3 .inputs) (settled h t s w3 out)
       last-ok =
           let page-is : b .pos .page ≡ s .page = ap (λ (x : Pos). x .page) (T .place) in
-          settled-ok d Tracks b terminate (w3 .inputs) s out T w3 same3 refl items3 short3 (rw laid3 (in-layout h t (lastPlan h) (placeOf s))) (rw (T .place) (closed3 .sound)) refl refl
-          (λ q. absurd (omega arith)) (rw (T .place) (facts3 .page1)) (closed3 .bodyPage) (λ u v m n. closed3 .paged u v (m ∙ page-is) (n ∙ page-is)) (inl phase3)
-          (λ o l. idle-tracks (moved w3 (w3 .laid .to)) _ phase3 (idle3 l) long3 refl)
+          settled-ok d Tracks b terminate s out T w3 (rw (T .goes e .1, T .place) laid3) (A .itemsIn) no-prefix-short (in-layout h t (lastPlan h) (placeOf s)) (rw (T .place) (closed3 .sound)) refl refl
+          (λ q. absurd (omega arith)) (rw (T .place) (facts3 .first)) (closed3 .bodyPage) (λ u v m n. closed3 .paged u v (m ∙ page-is) (n ∙ page-is)) (inl refl) next3
 
-    pub terminate-ok : Ok d Tracks s b terminate (reads d s terminate) (answer d s terminate out)
-    unfolding calls.call callOn
-    terminate-ok =
-        rw (accepts, T .kept)
-        (by-test (eqb (s .phase) idle)
-        (λ n. rw n (no-ok terminate _ verdict.Phase (omega arith) (omega arith) refl))
-        (λ n. by-test (eqb (s .phase) started)
-        (λ e. rw (n, e) (started-ends (eqb-true (s .phase) 1 e)))
-        (λ e. rw (n, e) (last-ok (two (s .phase) (L .phase-listed s (T .kept)) (eqb-false (s .phase) 0 n) (eqb-false (s .phase) 1 e))))))
-
+    -- ---- every call
     pub call-ok : (c : Call) → Ok d Tracks s b c (reads d s c) (answer d s c out)
-    call-ok initiate = initiate-ok
-    call-ok (generate i row) = generate-ok i row
-    call-ok terminate = terminate-ok
+    call-ok =
+        each-call d s out (λ c r. Ok d Tracks s b c (reads d s c) r)
+        (record {
+          broken = λ c n e. let z : _≡_ {A = ℕ} 0 1 = ap numberChecked (sym accepts ∙ e) in absurd (omega arith);
+          bad = λ c e. absurd (false≢true (sym e ∙ T .kept));
+          no = λ c. refused-ok d Tracks b c s out T (reads d s c);
+          begins = initiate-begins;
+          ends = started-ends;
+          row = λ a g detail row R. row-ok detail row R g;
+          last = λ a e. last-ok e;
+        })

@@ -1,5 +1,5 @@
 -- Every list of calls, by induction with `Tracks`.
--- Assumes nothing but the laws in `Laws`, which `Demand` supplies.
+-- Assumes nothing.
 use Prim.Native.Nat.{ℕ, _≤_, _<_}
 use mathlib.Core.Path.{_≡_, refl, sym, ap₂, _∙_}
 use mathlib.Core.Bool.{Bool, true, false, cond}
@@ -29,12 +29,11 @@ use Rattle.state.specs.declared.State.{State}
 use Rattle.state.specs.State.{freshAt}
 use Rattle.book.specs.Book.{Call, Book, freshBook, enter, book, duesIn, duesOf, spotsIn}
 use Rattle.book.specs.Demand.{Use, Done, did, run, printed, taken, events, due, Allowed, Demand3}
-use Rattle.book.proofs.Laws.{Laws}
 use Rattle.book.proofs.Moves.{Led, Follow, Moves}
 use Rattle.book.proofs.Step.{Ok}
 use Rattle.book.proofs.Calls.{Tracks, call-ok, fresh-tracks}
 
-module _ (d : List ℕ) (accepts : checked d ≡ Accepted) (A : facts.Accepted (headOf d) (table d) (literals d)) (L : Laws (headOf d) (table d)) where
+module _ (d : List ℕ) (accepts : checked d ≡ Accepted) (A : facts.Accepted (headOf d) (table d) (literals d)) where
   abbrev h : Head
   h = headOf d
 
@@ -87,7 +86,7 @@ module _ (d : List ℕ) (accepts : checked d ≡ Accepted) (A : facts.Accepted (
         (λ q. let e = sym i ∙ eqb-true n r q in follow-append u w us ys (m .follow u w (f .going e)) (rest (lastOf u us) (lastOf w (bodies h t us)) (before-own e)))
         (λ q. rest u w (before-other (λ e. eqb-false n r q (i ∙ e))))
 
-  holds-cons : (s : State) (b : Book) (x : Done d) (xs : List (Done d)) → Ok d (Tracks d accepts A L) s b (x .call) (x .reading) (x .result) →
+  holds-cons : (s : State) (b : Book) (x : Done d) (xs : List (Done d)) → Ok d (Tracks d accepts A) s b (x .call) (x .reading) (x .result) →
       Holds (x .result .answer .state) (enter h t b (x .call) (taken d (x .result)) .next) (rankB (enter h t b (x .call) (taken d (x .result)) .next)) xs → Holds s b (rankB b) (x ∷ xs)
   unfolding printed events book duesIn duesOf spotsIn due
   holds-cons s b x xs o m =
@@ -107,11 +106,11 @@ module _ (d : List ℕ) (accepts : checked d ≡ Accepted) (A : facts.Accepted (
   unfolding printed events book duesIn duesOf bodies spotsIn due
   holds-none s b = record { refusals = tt; bytes = refl; parts = tt; pages = tt; follow = λ r u w f. (tt, tt); top = rankB b; climb = omega arith }
 
-  holds : (us : List Use) (s : State) (b : Book) → Tracks d accepts A L s b → Holds s b (rankB b) (run d s us)
+  holds : (us : List Use) (s : State) (b : Book) → Tracks d accepts A s b → Holds s b (rankB b) (run d s us)
   unfolding run
   holds [] s b T = holds-none s b
   holds (u ∷ us) s b T =
-      let o = call-ok d accepts A L s b T (u .out) (u .call) in
+      let o = call-ok d accepts A s b T (u .out) (u .call) in
       let x = did d s u in
       holds-cons s b x (run d (x .result .answer .state) us) o (holds us (x .result .answer .state) (enter h t b (u .call) (taken d (x .result)) .next) (o .next))
 
@@ -120,7 +119,7 @@ module _ (d : List ℕ) (accepts : checked d ≡ Accepted) (A : facts.Accepted (
 
   pub demand3 : (us : List Use) → Demand3 d (run d (freshAt 0) us)
   demand3 us =
-      let m = holds us (freshAt 0) freshBook (fresh-tracks d accepts A L) in
+      let m = holds us (freshAt 0) freshBook (fresh-tracks d accepts A freshBook refl) in
       record {
         refusals = m .refusals;
         bytes = m .bytes;

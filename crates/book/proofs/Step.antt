@@ -1,45 +1,42 @@
 -- One call against the book's entry.
--- Assumes nothing but the laws in `Laws`, which `Demand` supplies.
+-- Assumes nothing.
 use Prim.Native.Nat.{ℕ, _≤_}
 use mathlib.Core.Path.{_≡_, refl, ap, _∙_}
-use mathlib.Core.Bool.{true, false}
+use mathlib.Core.Bool.{false}
 use mathlib.Core.List.{List}
 use mathlib.Core.Logic.{_⊎_, inl, inr}
 use native.Mathlib.Omega.{arith}
-use borrow.Author.Tests.{ltb-false}
+use borrow.Author.Tests.{ne-eqb}
 use lib.Dec.{eqb}
-use lib.ListN.{length, take}
-use Rattle.counts.proofs.Laws.{by-test}
-use Rattle.splice.specs.Splice.{splice}
+use lib.ListN.{take}
 use Rattle.tables.specs.declared.Head.{Head}
 use Rattle.tables.specs.Head.{headOf}
 use Rattle.tables.specs.Table.{table}
-use Rattle.description.specs.declared.Checked.the-variants.{Accepted}
 use Rattle.printed.specs.Printed.{Short}
 use Rattle.compose.specs.Facts.{ItemsIn}
 use Rattle.layout.specs.declared.Pos.{Pos}
 use Rattle.layout.specs.Layout.{Due}
-use Rattle.call_text.specs.Bytes.{Reading, dueBytes, byteCount}
+use Rattle.call_text.specs.Bytes.{Reading}
 use Rattle.call_text.proofs.Bytes.{GroupsIn, printed-part}
 use Rattle.place.specs.Place.{lastPage}
-use Rattle.pages.specs.Outcome.{pastLast, tooShort, outcome, written}
 use Rattle.pagination.specs.All.{All}
 use Rattle.pagination.specs.Claims.{Sound, rankAt, Walk}
 use Rattle.pagination.proofs.Climbs.{all-map}
 use Rattle.pagination.proofs.Groups.{sound-none}
 use Rattle.state.specs.declared.State.{State}
+use Rattle.state.specs.State.{idle}
 use Rattle.verdict.specs.declared.Verdict.{Verdict}
 use Rattle.verdict.specs.declared.Verdict.the-variants as verdict
 use Rattle.verdict.specs.Verdict.{number}
 use Rattle.answer.specs.Result.{Result, refuse}
 use Rattle.work.specs.Work.{Work, moved, settled}
+use Rattle.work.proofs.Settled.{whole, by-settled}
 use Rattle.book.specs.Book.{Call, Book, dueFor, turned, enter}
 use Rattle.book.specs.Sheet.{sheetOf}
 use Rattle.book.specs.Demand.{taken}
 use Rattle.book.proofs.Bytes.{sheet-same}
 use Rattle.book.proofs.Moves.{Moves, moves-none, walk-pages, walk-moves}
 
--- the book's row and the kept record have the same control values
 module _ (d : List ℕ) where
   abbrev h : Head
   h = headOf d
@@ -60,11 +57,12 @@ module _ (d : List ℕ) where
     pub moves : Moves h t s b (r .answer .state) (enter h t b c (taken d r) .next) (enter h t b c (taken d r) .dues)
     pub next : Inv (r .answer .state) (enter h t b c (taken d r) .next)
 
-  module _ (Inv : State → Book → Type 0) (b : Book) (c : Call) (reading : Reading) (s : State) (out : List ℕ) (inv : Inv s b) where
+  module _ (Inv : State → Book → Type 0) (b : Book) (c : Call) (s : State) (out : List ℕ) (inv : Inv s b) where
     -- a refusal changes nothing
-    pub refused-ok : (v : Verdict) → 3 ≤ number v → number v ≤ 9 → eqb (number v) 0 ≡ false → Ok Inv s b c reading (refuse s out v)
+    pub refused-ok : (reading : Reading) (v : Verdict) → 3 ≤ number v → number v ≤ 9 → Ok Inv s b c reading (refuse s out v)
     unfolding enter sheetOf
-    refused-ok v l m e =
+    refused-ok reading v l m =
+        let e : eqb (number v) 0 ≡ false = ne-eqb (number v) 0 (λ z. omega arith) in
         record {
           fine = inr (l, m);
           bytes = rw e refl;
@@ -75,32 +73,24 @@ module _ (d : List ℕ) where
         }
 
     -- a call that prints: 7, 8 and 9, else the groups due by the book
-    module _ (w : Work) (same : w .laid ≡ dueFor h t (b .row) c (b .pos)) (read : reading ≡ w .inputs) (items : ItemsIn h t (w .inputs .lits)) (short : Short (w .inputs .prefix)) (groups : GroupsIn h (w .laid .dues))
+    module _ (w : Work) (same : w .laid ≡ dueFor h t (b .row) c (b .pos)) (items : ItemsIn h t (w .inputs .lits)) (short : Short (w .inputs .prefix)) (groups : GroupsIn h (w .laid .dues))
         (sound : Sound h t (b .report) (rankAt (b .report) (b .pos)) (rankAt (b .report) (w .laid .to)) (w .laid .dues))
         (stays : turned h t b c (w .laid) .report ≡ b .report) (place : turned h t b c (w .laid) .pos ≡ w .laid .to)
-        (busy : s .phase ≡ 0 → ⊥) (low : 1 ≤ b .pos .page)
-        (q : ℕ) (walk : (u v : Due) → u .page ≡ b .pos .page → v .page ≡ b .pos .page → Walk h t u v (w .laid .dues) (w .laid .to .page) q) (over : (w .phase ≡ 0) ⊎ (q ≡ w .laid .to .page))
-        (next : w .ok ≡ true → w .laid .to .page ≤ lastPage → Inv (moved w (w .laid .to)) (turned h t b c (w .laid))) where
-      done-ok : w .ok ≡ true → w .laid .to .page ≤ lastPage → Ok Inv s b c reading (record { answer = record { verdict = verdict.Accepted; count = byteCount h t (w .inputs .prefix) (w .laid .dues); state = moved w (w .laid .to) }; out = splice out 0 (dueBytes h t (w .inputs) (w .laid .dues)) })
+        (busy : s .phase ≡ idle → ⊥) (low : 1 ≤ b .pos .page)
+        (q : ℕ) (walk : (u v : Due) → u .page ≡ b .pos .page → v .page ≡ b .pos .page → Walk h t u v (w .laid .dues) (w .laid .to .page) q) (over : (w .phase ≡ idle) ⊎ (q ≡ w .laid .to .page))
+        (next : w .laid .to .page ≤ lastPage → Inv (moved w (w .laid .to)) (turned h t b c (w .laid))) where
+      done-ok : w .laid .to .page ≤ lastPage → Ok Inv s b c (w .inputs) (whole h t w out)
       unfolding enter
-      done-ok o l = record {
+      done-ok l = record {
         fine = inl refl;
-        bytes = rw (← same, read) (printed-part h t (w .inputs) items short groups out ∙ sheet-same h t (w .inputs) (w .laid .dues));
+        bytes = rw (← same) (printed-part h t (w .inputs) items short groups out ∙ sheet-same h t (w .inputs) (w .laid .dues));
         sound = rw (← same, stays, place) sound;
         pages =
             rw (← same)
             (all-map (λ u. (1 ≤ u .page) × (u .page ≤ w .laid .to .page)) (λ u. (1 ≤ u .page) × (u .page ≤ lastPage)) (λ u k. (k .0, omega (arith, k .1))) (w .laid .dues) (walk-pages h t (b .pos .page) (w .laid .to .page) q (w .laid .dues) walk low));
         moves = rw (← same) (walk-moves h t (b .pos .page) (w .laid .to .page) q (w .laid .dues) walk s b (moved w (w .laid .to)) (turned h t b c (w .laid)) busy refl stays (ap (λ (x : Pos). x .page) place) over);
-        next = rw (← same) (next o l);
+        next = rw (← same) (next l);
       }
 
-      pub settled-ok : Ok Inv s b c reading (settled h t s w out)
-      unfolding settled outcome written
-      settled-ok =
-          by-test (w .ok)
-          (λ o. by-test (pastLast (w .laid))
-          (λ p. rw (o, p) (refused-ok verdict.Pages (omega arith) (omega arith) refl))
-          (λ p. by-test (tooShort h t (w .inputs .prefix) (length out) (w .laid))
-          (λ q. rw (o, p, q) (refused-ok verdict.Room (omega arith) (omega arith) refl))
-          (λ q. rw (o, p, q) (done-ok o (ltb-false lastPage (w .laid .to .page) p)))))
-          (λ o. rw o (refused-ok verdict.Sum (omega arith) (omega arith) refl))
+      pub settled-ok : Ok Inv s b c (w .inputs) (settled h t s w out)
+      settled-ok = by-settled h t s w out (Ok Inv s b c (w .inputs)) (λ v l m. refused-ok (w .inputs) v (omega arith) m) (λ o l _. done-ok l)

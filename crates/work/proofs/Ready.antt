@@ -103,6 +103,13 @@ module _ {h : Head} {t lits : List ℕ} {s : State} {detail : ℕ} {row : List �
       )
 
 -- ---- a running state
+pub good-sums : {h : Head} {t : List ℕ} {s : State} → RunningState h t s → length (s .sums) ≡ sumCount → GoodSums (h .counters) (s .sums)
+good-sums {s = s} f n = record {
+  range = f .inRange;
+  long = n;
+  beyond = λ i m. by-test (ltb i sumCount) (λ q. f .beyondSums i m (ltb-true i sumCount q)) (λ q. List·getD-eq-default (s .sums) (pos 0) (omega (arith, ltb-false i sumCount q)));
+}
+
 module _ {h : Head} {t lits : List ℕ} {s : State} (S : Stands h t lits s) (e : s .phase ≡ running) where
   facts : RunningState h t s
   facts = running-facts h t s e (S .rules)
@@ -110,20 +117,13 @@ module _ {h : Head} {t lits : List ℕ} {s : State} (S : Stands h t lits s) (e :
   kept-in : Formed h t (s .kept)
   kept-in = running-formed h t s (record { fields = S .accepted .fieldsIn; short = S .accepted .record256 }) (S .sized) facts
 
-  good : GoodSums (h .counters) (s .sums)
-  good = record {
-    range = facts .inRange;
-    long = S .sized .sumsLong;
-    beyond = λ i m. by-test (ltb i sumCount) (λ q. facts .beyondSums i m (ltb-true i sumCount q)) (λ q. List·getD-eq-default (s .sums) (pos 0) (omega (arith, ltb-false i sumCount q, S .sized .sumsLong)));
-  }
-
   pub last-adding : CountersIn h t × (sumsOk (s .sums) ≡ true)
   last-adding = (S .accepted .countersIn, facts .inRange)
 
   pub last-prints : Called h t (lastPlan h) (placeOf s) × (Printable h t (reading lits (s .kept) (s .kept) (totalsLast h t (s .sums) .shown) false noPrefix) × (length (totalsLast h t (s .sums) .shown) ≡ sumCount))
   last-prints =
       let A = S .accepted in
-      let n = last-good h t (A .countersIn .few) (s .sums) good .long in (
+      let n = last-good h t (A .countersIn .few) (s .sums) (good-sums facts (S .sized .sumsLong)) .long in (
         called A (record { level = omega arith; feet = A .controls8; heads = omega arith; detail = omega arith }) (facts .last),
         (printable A (s .kept) (s .kept) _ false kept-in kept-in n, n),
       )
@@ -141,5 +141,5 @@ module _ {h : Head} {t lits : List ℕ} {s : State} {detail : ℕ} {row : List �
   later-prints {b} flag m l =
       let A = p .0 .accepted in (
         called A (record { level = omega (arith, A .controls8); feet = omega (arith, A .controls8); heads = omega (arith, A .controls8); detail = l }) (facts (p .0) (p .1 .1) .last),
-        printable A (s .kept) row _ flag (kept-in (p .0) (p .1 .1)) (row-formed p) (later-good h t (A .countersIn .few) (s .sums) (good (p .0) (p .1 .1)) row detail b .long),
+        printable A (s .kept) row _ flag (kept-in (p .0) (p .1 .1)) (row-formed p) (later-good h t (A .countersIn .few) (s .sums) (good-sums (facts (p .0) (p .1 .1)) (p .0 .sized .sumsLong)) row detail b .long),
       )
