@@ -19,24 +19,23 @@ use Rattle.accepted.specs.Accepted as facts
 use Rattle.accepted.proofs.Accept.{accepted}
 use Rattle.sums.specs.Sums.{sumsOk}
 use Rattle.pagination.specs.All.{All}
-use Rattle.state_rules.proofs.States.{by-phase}
+use Rattle.state_rules.proofs.States.{by-phase, idle-facts, running-facts}
 use Rattle.state.specs.declared.State.{State}
 use Rattle.verdict.specs.Verdict.{number}
 use Rattle.state.specs.State.{freshAt}
 use Rattle.answer.specs.Result.{Result}
+use Rattle.work.proofs.Ready.{zeros-good}
 use Rattle.state_bytes.specs.Bytes.{bytesOf, stateOf}
 use Rattle.state_bytes.proofs.Laws.{length-bytes}
 use Rattle.state_bytes.proofs.Again.{state-again, in-bytes}
 use Rattle.report_c.specs.Leaves.{stored, Leaves}
 use Rattle.book.specs.Book.{Book, freshBook, enter}
 use Rattle.book.specs.Demand.{Use, answer, taken, Done, did, run, printed}
-use Rattle.book.proofs.Laws.{Laws}
-use Rattle.book.proofs.Supply.{laws}
 use Rattle.book.proofs.Calls.{Tracks, call-ok, fresh-tracks}
 use Rattle.book.proofs.Theorem.{demand3}
 use Rattle.demands.specs.Calls.{Refuses, next, Works}
 use Rattle.demands.specs.Bytes.{Left, printedBytes, leaving, leaves, runBytes, RefusesBytes, WorksBytes, Demand1Bytes, written, Demand3Bytes}
-use Rattle.demands.proofs.Calls.{whole, refusal}
+use Rattle.demands.proofs.Calls.{each-whole, refusal}
 use Rattle.demands.proofs.Sizes.{Lengths, fresh-sized, sized}
 
 -- a call with a number above 0 was not accepted
@@ -64,7 +63,7 @@ module _ (d : List ℕ) where
     whole-bytes =
         ⊎-elim (λ (w : Works d (stateOf old) (u .call) (u .out) r). inl (record { accepted = w .accepted; state = next-bytes w; lines = w .lines; count = w .count; room = w .room; size = w .size; rest = w .rest }))
         (λ (e : Refuses (stateOf old) (u .out) r). inr (record { listed = e .listed; count = e .count; state = kept-bytes e; output = e .output }))
-        (whole d (stateOf old) (u .out) (u .call))
+        (each-whole d (stateOf old) (u .out) (u .call))
 
     pub demand1-bytes : Demand1Bytes d old u
     demand1-bytes = record {
@@ -83,17 +82,12 @@ module _ (d : List ℕ) where
     A : facts.Accepted h t (literals d)
     A = accepted d a
 
-    L : Laws h t
-    L = laws h t (literals d) A
-
     abbrev Tracked : State → Book → Type 0
-    Tracked s b = Tracks d a A L s b
+    Tracked s b = Tracks d a A s b
 
     in-range : (s : State) (b : Book) → Tracked s b → sumsOk (s .sums) ≡ true
     in-range s b T =
-        by-phase h t s (T .kept) (λ e. L .idle-facts s e (T .kept) .sumsIn)
-        (λ e. rw (T .begins e .0) (L .zero-sums .range))
-        (λ e. L .run-facts s e (T .kept) .sumsIn)
+        by-phase h t s (T .kept) (λ e. idle-facts h t s e (T .kept) .inRange) (λ e. rw (T .begins e .0) (zeros-good 0 .range)) (λ e. running-facts h t s e (T .kept) .inRange)
 
     -- a state that the run hands on, read from its bytes, is the state
     read-back : (s : State) (b : Book) → Tracked s b → Lengths s → stateOf (bytesOf s) ≡ s
@@ -111,7 +105,7 @@ module _ (d : List ℕ) where
 
     -- what a call hands on
     next-tracked : (s : State) (b : Book) (T : Tracked s b) (u : Use) → Tracked (did d s u .result .answer .state) (enter h t b (u .call) (taken d (did d s u .result)) .next)
-    next-tracked s b T u = call-ok d a A L s b T (u .out) (u .call) .next
+    next-tracked s b T u = call-ok d a A s b T (u .out) (u .call) .next
 
     runs : (us : List Use) (s : State) (b : Book) → Tracked s b → Lengths s → runBytes d (bytesOf s) us ≡ map (written d) (run d s us)
     unfolding runBytes run
@@ -135,7 +129,7 @@ module _ (d : List ℕ) where
 
     pub demand3-bytes : (us : List Use) → Demand3Bytes d us
     demand3-bytes us =
-        let T = fresh-tracks d a A L in
+        let T = fresh-tracks d a A freshBook refl in
         let e = runs us (freshAt 0) freshBook T (fresh-sized 0) in
         record {
           same = e;

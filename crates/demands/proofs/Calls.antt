@@ -7,11 +7,9 @@ use mathlib.Core.List.{List, [], _∷_}
 use mathlib.Core.Logic.{_⊎_, inl, inr, ⊎-elim}
 use native.Mathlib.Nat.{zero-add}
 use native.Mathlib.Omega.{arith}
-use borrow.Author.Tests.{ltb-false}
 use lib.Dec.{eqb}
 use lib.ListN.{length}
 use Rattle.counts.proofs.Laws.{by-test}
-use Rattle.splice.specs.Splice.{splice}
 use Rattle.splice.proofs.Laws.{length-splice, drop-splice}
 use Rattle.tables.specs.declared.Head.{Head}
 use Rattle.tables.specs.Head.{headOf}
@@ -24,9 +22,8 @@ use Rattle.layout.specs.Lines.{lineTotal}
 use Rattle.printed.specs.Printed.{noPrefix, Short}
 use Rattle.printed.proofs.Laws.{no-prefix-short}
 use Rattle.call_text.specs.Bytes.{dueBytes, byteCount}
-use Rattle.pages.specs.Outcome.{pastLast, tooShort, outcome, written}
 use Rattle.call_text.proofs.Bytes.{GroupsIn, in-layout, length-dueBytes, printed-part}
-use Rattle.state.specs.State.{started}
+use Rattle.state.specs.State.{idle, started, running}
 use Rattle.state.specs.declared.State.{State}
 use Rattle.verdict.specs.declared.Verdict.{Verdict}
 use Rattle.verdict.specs.declared.Verdict.the-variants as verdict
@@ -34,11 +31,12 @@ use Rattle.verdict.specs.Verdict.{number}
 use Rattle.state.specs.State.{freshAt}
 use Rattle.answer.specs.Result.{Result, refuse}
 use Rattle.work.specs.Work.{Work, moved, settled}
+use Rattle.work.proofs.Settled.{whole, by-settled}
 use Rattle.work.specs.Rows.{firstWork, laterWork, rowWork, lastWork}
-use Rattle.book.specs.Book.{Call, generate, terminate}
+use Rattle.book.specs.Book.{Call, initiate, generate, terminate}
 use Rattle.book.specs.Demand.{Use, answer, reads, taken, run, printed}
 use Rattle.demands.specs.Calls.{Refuses, work, next, Works, Demand1}
-use Rattle.demands.proofs.Branches.{each-call}
+use Rattle.book.proofs.Branches.{each-call}
 
 module _ (d : List ℕ) (s : State) (out : List ℕ) where
   abbrev h : Head
@@ -68,7 +66,7 @@ module _ (d : List ℕ) (s : State) (out : List ℕ) where
     long : length bytes ≡ byteCount h t (w .inputs .prefix) (w .laid .dues)
     long = length-dueBytes h t (w .inputs) items short groups
 
-    done : byteCount h t (w .inputs .prefix) (w .laid .dues) ≤ length out → Whole c (record { answer = record { verdict = verdict.Accepted; count = byteCount h t (w .inputs .prefix) (w .laid .dues); state = moved w (w .laid .to) }; out = splice out 0 bytes })
+    done : byteCount h t (w .inputs .prefix) (w .laid .dues) ≤ length out → Whole c (whole h t w out)
     done l = inl (record {
       accepted = refl;
       state = sym n;
@@ -80,39 +78,41 @@ module _ (d : List ℕ) (s : State) (out : List ℕ) where
     })
 
     settles : Whole c (settled h t s w out)
-    unfolding settled outcome written
-    settles =
-        by-test (w .ok)
-        (λ o. by-test (pastLast (w .laid))
-        (λ p. rw (o, p) (refused c verdict.Pages (omega arith) (omega arith)))
-        (λ p. by-test (tooShort h t (w .inputs .prefix) (length out) (w .laid))
-        (λ q. rw (o, p, q) (refused c verdict.Room (omega arith) (omega arith)))
-        (λ q. rw (o, p, q) (done (ltb-false (length out) (byteCount h t (w .inputs .prefix) (w .laid .dues)) q)))))
-        (λ o. rw o (refused c verdict.Sum (omega arith) (omega arith)))
+    settles = by-settled h t s w out (Whole c) (λ v l m. refused c v (omega arith) m) (λ _ _ l. done l)
 
-  row-works : checked d ≡ Accepted → (i : ℕ) (row : List ℕ) → length row ≡ h .reclen → Whole (generate i row) (settled h t s (rowWork h t (literals d) s i row) out)
+  row-works : checked d ≡ Accepted → (detail : ℕ) (row : List ℕ) → Whole (generate detail row) (settled h t s (rowWork h t (literals d) s detail row) out)
   unfolding firstWork laterWork
-  row-works a i row l =
-      let w = rowWork h t (literals d) s i row in
+  row-works a detail row =
+      let w = rowWork h t (literals d) s detail row in
       let items = accepted d a .itemsIn in
       by-test (eqb (s .phase) started)
-      (λ e. settles (generate i row) w (rw e items) (rw e refl) (rw e (in-layout h t _ _)) refl refl refl)
-      (λ e. settles (generate i row) w (rw e items) (rw e refl) (rw e (in-layout h t _ _)) refl refl refl)
+      (λ e. settles (generate detail row) w (rw e items) (rw e refl) (rw e (in-layout h t _ _)) refl refl refl)
+      (λ e. settles (generate detail row) w (rw e items) (rw e refl) (rw e (in-layout h t _ _)) refl refl refl)
 
-  last-works : checked d ≡ Accepted → eqb (s .phase) started ≡ false → Whole terminate (settled h t s (lastWork h t (literals d) s) out)
+  last-works : checked d ≡ Accepted → s .phase ≡ running → Whole terminate (settled h t s (lastWork h t (literals d) s) out)
   unfolding lastWork
   last-works a e = settles terminate (lastWork h t (literals d) s) (accepted d a .itemsIn) refl (in-layout h t _ _) refl (rw e refl) (rw e refl)
 
-  pub whole : (c : Call) → Whole c (answer d s c out)
-  whole = each-call d s out Whole (record { no = refused; silent = silent; row = row-works; last = last-works })
+  pub each-whole : (c : Call) → Whole c (answer d s c out)
+  each-whole =
+      each-call d s out Whole
+      (record {
+        broken = λ c n e. refused c (verdict.Description n) (omega arith) (omega arith);
+        bad = λ c e. refused c verdict.State (omega arith) (omega arith);
+        no = λ c v l m. refused c v (omega arith) m;
+        begins = λ e. silent initiate started refl refl;
+        ends = λ e. silent terminate idle (rw e refl) (rw e refl);
+        row = λ a g detail row R. row-works a detail row;
+        last = last-works;
+      })
 
   -- a call that was not accepted is a refusal
   pub refusal : (c : Call) → taken d (answer d s c out) ≡ false → Refuses s out (answer d s c out)
-  refusal c e = ⊎-elim (λ (w : Works d s c out (answer d s c out)). absurd (false≢true (sym e ∙ ap (λ (n : ℕ). eqb n 0) (w .accepted)))) (λ (r : Refuses s out (answer d s c out)). r) (whole c)
+  refusal c e = ⊎-elim (λ (w : Works d s c out (answer d s c out)). absurd (false≢true (sym e ∙ ap (λ (n : ℕ). eqb n 0) (w .accepted)))) (λ (r : Refuses s out (answer d s c out)). r) (each-whole c)
 
   sheet-once : (c : Call) → taken d (answer d s c out) ≡ false → (us : List Use) → printed d (run d s (record { call = c; out = out } ∷ us)) ≡ printed d (run d s us)
   unfolding run printed
   sheet-once c e us = let r = refusal c e in rw (r .count, r .state) refl
 
   pub demand1 : (c : Call) → Demand1 d s c out
-  demand1 c = record { whole = whole c; once = λ e new. ap (λ (x : State). answer d x c new) (refusal c e .state); sheet = sheet-once c }
+  demand1 c = record { whole = each-whole c; once = λ e new. ap (λ (x : State). answer d x c new) (refusal c e .state); sheet = sheet-once c }

@@ -13,49 +13,43 @@ use Rattle.tables.specs.Head.{headOf}
 use Rattle.tables.specs.Table.{table, literals, lineCount}
 use Rattle.lookup.specs.Find.{theDetail, details}
 use Rattle.accepted.proofs.Accept.{accepted}
-use Rattle.pages.specs.Outcome.{pastLast, tooShort, outcome}
-use Rattle.state.specs.State.{started}
+use Rattle.state.specs.State.{idle, started, flagCount, keptSize, freshAt}
 use Rattle.state.specs.Kept.{flagsSet}
 use Rattle.state.proofs.Kept.{length-flagsSet, length-padded}
 use Rattle.state.specs.declared.State.{State}
-use Rattle.state.specs.State.{freshAt}
 use Rattle.work.specs.Work.{Work, settled}
+use Rattle.work.proofs.Settled.{by-settled}
 use Rattle.work.specs.Rows.{cleared, breaks, firstWork, laterWork, rowWork, lastWork}
 use Rattle.book.specs.Book.{Call}
 use Rattle.book.specs.Demand.{answer}
-use Rattle.demands.proofs.Branches.{each-call}
+use Rattle.book.proofs.Branches.{each-call}
 
 pub record Lengths (s : State) : Type 0 where
-  pub flags : length (s .flags) ≡ 8
-  pub kept : length (s .kept) ≡ 256
+  pub flags : length (s .flags) ≡ flagCount
+  pub kept : length (s .kept) ≡ keptSize
 
 pub fresh-sized : (phase : ℕ) → Lengths (freshAt phase)
-fresh-sized phase = record { flags = length-replicate 8 false; kept = length-replicate {A = ℕ} 256 0 }
+fresh-sized phase = record { flags = length-replicate flagCount false; kept = length-replicate {A = ℕ} keptSize 0 }
 
 module _ (d : List ℕ) (s : State) (out : List ℕ) (z : Lengths s) where
-  settled-sized : (h : Head) (t : List ℕ) (w : Work) → length (w .flags) ≡ 8 → length (w .kept) ≡ 256 → Lengths (settled h t s w out .answer .state)
-  unfolding settled outcome
-  settled-sized h t w f k =
-      by-test (w .ok)
-      (λ o. by-test (pastLast (w .laid)) (λ p. rw (o, p) z)
-      (λ p. by-test (tooShort h t (w .inputs .prefix) (length out) (w .laid)) (λ q. rw (o, p, q) z) (λ q. rw (o, p, q) (record { flags = f; kept = k }))))
-      (λ o. rw o z)
+  settled-sized : (h : Head) (t : List ℕ) (w : Work) → length (w .flags) ≡ flagCount → length (w .kept) ≡ keptSize → Lengths (settled h t s w out .answer .state)
+  settled-sized h t w f k = by-settled h t s w out (λ r. Lengths (r .answer .state)) (λ v l m. z) (λ _ _ _. record { flags = f; kept = k })
 
-  module _ (h : Head) (t lits : List ℕ) (i : ℕ) (row : List ℕ) where
-    cleared-long : (flags : List Bool) → length flags ≡ 8 → length (cleared h t i flags) ≡ 8
-    cleared-long flags g = by-cond (λ (l : List Bool). length l ≡ 8) (eqb (lineCount h t (theDetail h t i)) 0) (λ e. g) (λ e. length-set flags i false ∙ g)
+  module _ (h : Head) (t lits : List ℕ) (detail : ℕ) (row : List ℕ) where
+    cleared-long : (flags : List Bool) → length flags ≡ flagCount → length (cleared h t detail flags) ≡ flagCount
+    cleared-long flags g = by-cond (λ (l : List Bool). length l ≡ flagCount) (eqb (lineCount h t (theDetail h t detail)) 0) (λ e. g) (λ e. length-set flags detail false ∙ g)
 
-    row-flags : length (rowWork h t lits s i row .flags) ≡ 8
+    row-flags : length (rowWork h t lits s detail row .flags) ≡ flagCount
     unfolding firstWork laterWork
     row-flags =
         by-test (eqb (s .phase) started) (λ e. rw e (cleared-long (flagsSet (details h t)) (length-flagsSet (details h t))))
-        (λ e. rw e (cleared-long _ (by-cond (λ (l : List Bool). length l ≡ 8) (breaks h _) (λ b. (length-flagsSet (details h t))) (λ b. z .flags))))
+        (λ e. rw e (cleared-long _ (by-cond (λ (l : List Bool). length l ≡ flagCount) (breaks h _) (λ b. (length-flagsSet (details h t))) (λ b. z .flags))))
 
-    row-kept : length row ≤ 256 → length (rowWork h t lits s i row .kept) ≡ 256
+    row-kept : length row ≤ keptSize → length (rowWork h t lits s detail row .kept) ≡ keptSize
     unfolding firstWork laterWork
     row-kept l =
         by-test (eqb (s .phase) started) (λ e. rw e (length-padded row l))
-        (λ e. rw e (by-cond (λ (k : List ℕ). length k ≡ 256) (breaks h _) (λ b. length-padded row l) (λ b. z .kept)))
+        (λ e. rw e (by-cond (λ (k : List ℕ). length k ≡ keptSize) (breaks h _) (λ b. length-padded row l) (λ b. z .kept)))
 
   last-sized : (h : Head) (t lits : List ℕ) → Lengths (settled h t s (lastWork h t lits s) out .answer .state)
   unfolding lastWork
@@ -65,8 +59,11 @@ module _ (d : List ℕ) (s : State) (out : List ℕ) (z : Lengths s) where
   sized =
       each-call d s out (λ c r. Lengths (r .answer .state))
       (record {
+        broken = λ c n e. z;
+        bad = λ c e. z;
         no = λ c v a b. z;
-        silent = λ c phase e n. fresh-sized phase;
-        row = λ a i row l. settled-sized _ _ _ (row-flags (headOf d) (table d) (literals d) i row) (row-kept (headOf d) (table d) (literals d) i row (omega (arith, l, accepted d a .record256)));
+        begins = λ e. fresh-sized started;
+        ends = λ e. fresh-sized idle;
+        row = λ a g detail row R. settled-sized _ _ _ (row-flags (headOf d) (table d) (literals d) detail row) (row-kept (headOf d) (table d) (literals d) detail row (omega (arith, R .long, accepted d a .record256)));
         last = λ a e. last-sized (headOf d) (table d) (literals d);
       })
