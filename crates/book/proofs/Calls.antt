@@ -10,7 +10,7 @@ use native.Mathlib.Omega.{arith}
 use borrow.Author.Tests.{ltb-false, eqb-true, eqb-false}
 use lib.Dec.{eqb}
 use lib.IntN.{pos}
-use lib.ListN.{length, getD, set}
+use lib.ListN.{length, getD, set, length-set, length-replicate}
 use Rattle.counts.proofs.Laws.{by-test, by-cond}
 use Rattle.tables.specs.declared.Head.{Head}
 use Rattle.tables.specs.Head.{headOf}
@@ -40,12 +40,12 @@ use Rattle.pagination.proofs.Groups.{sound-none}
 use Rattle.pagination.proofs.Calls.{DetailOk, first-placed, later-placed, last-placed, detail-is}
 use Rattle.state.specs.State.{idle, started, running, sumCount, flagCount, keptSize, freshAt}
 use Rattle.state.specs.Kept.{paddedRow, flagsSet}
-use Rattle.state.proofs.Kept.{padded-zero, padded-formed, padded-controls, flagsSet-beyond}
+use Rattle.state.proofs.Kept.{length-padded, padded-zero, padded-formed, padded-controls, length-flagsSet, flagsSet-beyond}
 use Rattle.state.specs.declared.State.{State}
 use Rattle.verdict.specs.declared.Verdict.the-variants as verdict
 use Rattle.state_rules.specs.Rules.{stateOk}
-use Rattle.state_rules.specs.Facts.{PageIn, RunningState}
-use Rattle.state_rules.proofs.States.{fresh-ok, started-ok, idle-facts, idle-ok, running-facts, running-ok}
+use Rattle.state_rules.specs.Facts.{PageIn, Sized, RunningState}
+use Rattle.state_rules.proofs.States.{fresh-ok, started-ok, idle-facts, idle-ok, started-facts, running-facts, running-ok}
 use Rattle.refusals.specs.Facts.{Begun, RowIn}
 use Rattle.refusals.proofs.Stages.{running-else}
 use Rattle.answer.specs.Result.{placeOf}
@@ -73,16 +73,19 @@ module _ (d : List ℕ) (accepts : checked d ≡ Accepted) (A : facts.Accepted (
   -- what is carried from call to call
   pub record Tracks (s : State) (b : Book) : Type 0 where
     pub kept : stateOk h t s ≡ true
-    pub sumsLong : length (s .sums) ≡ sumCount
+    pub sized : Sized s
     pub place : b .pos ≡ placeOf s
-    pub begins : s .phase ≡ started → (s ≡ freshAt started) × (b .row ≡ none)
+    pub begins : s .phase ≡ started → b .row ≡ none
     pub goes : s .phase ≡ running → (old : List ℕ) × (b .row ≡ some old) × SameControls h t (s .kept) old
 
-  idle-tracks : (s : State) (b : Book) → s .phase ≡ idle → stateOk h t s ≡ true → length (s .sums) ≡ sumCount → b .pos ≡ placeOf s → Tracks s b
-  idle-tracks s b e k n p = record { kept = k; sumsLong = n; place = p; begins = λ q. absurd (omega arith); goes = λ q. absurd (omega arith) }
+  fresh-sized : (phase : ℕ) → Sized (freshAt phase)
+  fresh-sized phase = record { sumsLong = length-replicate sumCount (pos 0); flagsLong = length-replicate flagCount false; keptLong = length-replicate {A = ℕ} keptSize 0 }
+
+  idle-tracks : (s : State) (b : Book) → s .phase ≡ idle → stateOk h t s ≡ true → Sized s → b .pos ≡ placeOf s → Tracks s b
+  idle-tracks s b e k z p = record { kept = k; sized = z; place = p; begins = λ q. absurd (omega arith); goes = λ q. absurd (omega arith) }
 
   pub fresh-tracks : (b : Book) → b .pos ≡ freshPos → Tracks (freshAt idle) b
-  fresh-tracks b p = idle-tracks (freshAt idle) b refl (fresh-ok h t) (zeros-good 0 .long) p
+  fresh-tracks b p = idle-tracks (freshAt idle) b refl (fresh-ok h t) (fresh-sized idle) p
 
   spot-in : {s : State} → RunningState h t s → Running (frameOf h t) (placeOf s .spot)
   unfolding frameOf
@@ -101,7 +104,7 @@ module _ (d : List ℕ) (accepts : checked d ≡ Accepted) (A : facts.Accepted (
       sound = sound-none h t (b .report) (rankAt (b .report) (b .pos)) (rank (suc (b .report)) 1 0) (idle-climb e);
       pages = tt;
       moves = moves-none h t s b (freshAt started) (record { report = suc (b .report); row = none; pos = freshPos }) (omega arith) (λ l. refl) (λ u w m q. absurd (omega arith));
-      next = record { kept = started-ok h t; sumsLong = zeros-good 0 .long; place = refl; begins = λ e. (refl, refl); goes = λ e. absurd (omega arith) };
+      next = record { kept = started-ok h t; sized = fresh-sized started; place = refl; begins = λ e. refl; goes = λ e. absurd (omega arith) };
     }
 
     -- ---- GENERATE
@@ -112,22 +115,31 @@ module _ (d : List ℕ) (accepts : checked d ≡ Accepted) (A : facts.Accepted (
       detail-ok : DetailOk h t (b .report) (A .pageFits) (theDetail h t detail)
       detail-ok p = detail-is h t detail (R .named)
 
-      -- flags beyond the details, and a record that a state may keep of the row
-      abbrev FlagsEnd : List Bool → Type 0
-      FlagsEnd flags = (i : ℕ) → details h t ≤ i → i < flagCount → getD flags i false ≡ false
+      -- flags that are clear beyond the details, and a record that a state may keep of the row
+      record Flags (flags : List Bool) : Type 0 where
+        long : length flags ≡ flagCount
+        beyond : (i : ℕ) → details h t ≤ i → i < flagCount → getD flags i false ≡ false
 
-      flags-end : (flags : List Bool) → FlagsEnd flags → FlagsEnd (cleared h t detail flags)
-      flags-end flags f k l m =
-          by-cond (λ x. getD x k false ≡ false) (eqb (lineCount h t (theDetail h t detail)) 0) (λ e. f k l m)
-          (λ e. ⊎-elim (λ (q : getD (set flags detail false) k false ≡ false). q) (λ (q : getD (set flags detail false) k false ≡ getD flags k false). q ∙ f k l m) (getD-set flags detail k false false))
+      all-set : Flags (flagsSet (details h t))
+      all-set = record { long = length-flagsSet (details h t); beyond = flagsSet-beyond (details h t) }
+
+      one-cleared : (flags : List Bool) → Flags flags → Flags (cleared h t detail flags)
+      one-cleared flags f =
+          by-cond Flags (eqb (lineCount h t (theDetail h t detail)) 0) (λ e. f)
+          (λ e. record {
+            long = length-set flags detail false ∙ f .long;
+            beyond = λ k l m. ⊎-elim (λ (q : getD (set flags detail false) k false ≡ false). q) (λ (q : getD (set flags detail false) k false ≡ getD flags k false). q ∙ f .beyond k l m) (getD-set flags detail k false false);
+          })
 
       record Keeps (kept : List ℕ) : Type 0 where
+        long : length kept ≡ keptSize
         good : formed h t kept ≡ true
         beyond : (i : ℕ) → h .reclen ≤ i → i < keptSize → getD kept i 0 ≡ 0
         same : SameControls h t kept row
 
       padded-keeps : Keeps (paddedRow row)
       padded-keeps = record {
+        long = length-padded row (omega (arith, R .long, A .record256));
         good = padded-formed row (A .fieldsIn) (omega (arith, R .long)) ∙ R .good;
         beyond = λ i m n. padded-zero row i (omega (arith, R .long)) n;
         same = padded-controls row (A .fieldsIn) (omega (arith, R .long)) (A .controlsIn);
@@ -142,7 +154,7 @@ module _ (d : List ℕ) (accepts : checked d ≡ Accepted) (A : facts.Accepted (
         busy : s .phase ≡ idle → ⊥
         phase : w .phase ≡ running
         sums : GoodSums (h .counters) (w .sums)
-        flags : FlagsEnd (w .flags)
+        flags : Flags (w .flags)
         keeps : Keeps (w .kept)
         lits : w .inputs .lits ≡ literals d
         prefix : Short (w .inputs .prefix)
@@ -161,11 +173,11 @@ module _ (d : List ℕ) (accepts : checked d ≡ Accepted) (A : facts.Accepted (
                   noBody = m .placed .running .fresh;
                   saving = m .placed .running .kept;
                   beyondSums = λ i k _. m .sums .beyond i k;
-                  beyondFlags = m .flags;
+                  beyondFlags = m .flags .beyond;
                   formed = m .keeps .good;
                   beyondRow = m .keeps .beyond;
                 });
-            sumsLong = m .sums .long;
+            sized = record { sumsLong = m .sums .long; flagsLong = m .flags .long; keptLong = m .keeps .long };
             place = refl;
             begins = λ q. absurd (omega (arith, m .phase));
             goes = λ q. (row, refl, m .keeps .same);
@@ -175,17 +187,17 @@ module _ (d : List ℕ) (accepts : checked d ≡ Accepted) (A : facts.Accepted (
       first-runs : s .phase ≡ started → Runs (firstWork h t (literals d) s detail row)
       unfolding firstWork
       first-runs e =
-          let fresh = T .begins e .0 in
+          let fresh = started-facts h t s (T .sized) e (T .kept) in
           let page : s .page ≡ 1 = ap (λ (x : State). x .page) fresh in
           record {
-            laid = rw (T .begins e .1, T .place) refl;
+            laid = rw (T .begins e, T .place) refl;
             groups = in-layout h t _ _;
             placed = first-placed h t (b .report) (A .pageFits) (theDetail h t detail) (placeOf s) detail-ok page (ap (λ (x : State). x .line) fresh);
             first = omega arith;
             busy = λ q. absurd (omega arith);
             phase = refl;
             sums = first-good h t (A .countersIn .few) (s .sums) (rw fresh (zeros-good (h .counters))) row detail .sums;
-            flags = flags-end (flagsSet (details h t)) (flagsSet-beyond (details h t));
+            flags = one-cleared (flagsSet (details h t)) all-set;
             keeps = padded-keeps;
             lits = refl;
             prefix = no-prefix-short;
@@ -204,9 +216,9 @@ module _ (d : List ℕ) (accepts : checked d ≡ Accepted) (A : facts.Accepted (
             first = f .first;
             busy = λ q. absurd (omega arith);
             phase = refl;
-            sums = later-good h t (A .countersIn .few) (s .sums) (good-sums f (T .sumsLong)) row detail level .sums;
-            flags = flags-end (flagsAt h t level (s .flags)) (by-cond FlagsEnd (breaks h level) (λ q. flagsSet-beyond (details h t)) (λ q. f .beyondFlags));
-            keeps = by-cond Keeps (breaks h level) (λ q. padded-keeps) (λ q. record { good = f .formed; beyond = f .beyondRow; same = break-none (s .kept) row (ltb-false level (h .controls) q) });
+            sums = later-good h t (A .countersIn .few) (s .sums) (good-sums f (T .sized .sumsLong)) row detail level .sums;
+            flags = one-cleared (flagsAt h t level (s .flags)) (by-cond Flags (breaks h level) (λ q. all-set) (λ q. record { long = T .sized .flagsLong; beyond = f .beyondFlags }));
+            keeps = by-cond Keeps (breaks h level) (λ q. padded-keeps) (λ q. record { long = T .sized .keptLong; good = f .formed; beyond = f .beyondRow; same = break-none (s .kept) row (ltb-false level (h .controls) q) });
             lits = refl;
             prefix = no-prefix-short;
           }
@@ -223,11 +235,11 @@ module _ (d : List ℕ) (accepts : checked d ≡ Accepted) (A : facts.Accepted (
         let r = T .begins e in
         record {
           fine = inl refl;
-          bytes = rw (r .1) refl;
-          sound = rw (r .1) (sound-none h t (b .report) (rankAt (b .report) (b .pos)) (rankAt (b .report) (b .pos)) (omega arith));
-          pages = rw (r .1) tt;
-          moves = rw (r .1) (moves-none h t s (record { report = b .report; row = none; pos = b .pos }) (freshAt idle) (record { report = b .report; row = none; pos = b .pos }) (omega arith) (λ l. absurd (omega arith)) (λ u w m q. inl refl));
-          next = rw (r .1) (fresh-tracks _ (T .place ∙ ap placeOf (r .0)));
+          bytes = rw r refl;
+          sound = rw r (sound-none h t (b .report) (rankAt (b .report) (b .pos)) (rankAt (b .report) (b .pos)) (omega arith));
+          pages = rw r tt;
+          moves = rw r (moves-none h t s (record { report = b .report; row = none; pos = b .pos }) (freshAt idle) (record { report = b .report; row = none; pos = b .pos }) (omega arith) (λ l. absurd (omega arith)) (λ u w m q. inl refl));
+          next = rw r (fresh-tracks _ (T .place ∙ ap placeOf (started-facts h t s (T .sized) e (T .kept))));
         }
 
     module _ (e : s .phase ≡ running) where
@@ -247,7 +259,7 @@ module _ (d : List ℕ) (accepts : checked d ≡ Accepted) (A : facts.Accepted (
       next3 : w3 .laid .to .page ≤ lastPage → Tracks (moved w3 (w3 .laid .to)) (turned h t b terminate (w3 .laid))
       unfolding lastWork
       next3 l =
-          let z = last-good h t (A .countersIn .few) (s .sums) (good-sums facts3 (T .sumsLong)) .sums in
+          let z = last-good h t (A .countersIn .few) (s .sums) (good-sums facts3 (T .sized .sumsLong)) .sums in
           idle-tracks _ _ refl
           (idle-ok h t _ refl (record {
             first = omega (arith, closed3 .pages, facts3 .first);
@@ -256,7 +268,7 @@ module _ (d : List ℕ) (accepts : checked d ≡ Accepted) (A : facts.Accepted (
             small = omega (arith, closed3 .saved, A .pageFits .ftPage, A .pageFits .page999);
             inRange = z .range;
           }))
-          (z .long) refl
+          (record { sumsLong = z .long; flagsLong = T .sized .flagsLong; keptLong = T .sized .keptLong }) refl
 
       last-ok : Ok d Tracks s b terminate (w3 .inputs) (settled h t s w3 out)
       unfolding lastWork

@@ -19,7 +19,7 @@ use Rattle.accepted.specs.Accepted as facts
 use Rattle.accepted.proofs.Accept.{accepted}
 use Rattle.sums.specs.Sums.{sumsOk}
 use Rattle.pagination.specs.All.{All}
-use Rattle.state_rules.proofs.States.{by-phase, idle-facts, running-facts}
+use Rattle.state_rules.proofs.States.{by-phase, idle-facts, started-facts, running-facts}
 use Rattle.state.specs.declared.State.{State}
 use Rattle.verdict.specs.Verdict.{number}
 use Rattle.state.specs.State.{freshAt}
@@ -36,7 +36,6 @@ use Rattle.book.proofs.Theorem.{demand3}
 use Rattle.demands.specs.Calls.{Refuses, next, Works}
 use Rattle.demands.specs.Bytes.{Left, printedBytes, leaving, leaves, runBytes, RefusesBytes, WorksBytes, Demand1Bytes, written, Demand3Bytes}
 use Rattle.demands.proofs.Calls.{each-whole, refusal}
-use Rattle.demands.proofs.Sizes.{Lengths, fresh-sized, sized}
 
 -- a call with a number above 0 was not accepted
 not-accepted : (n : ℕ) → 1 ≤ n → eqb n 0 ≡ false
@@ -87,40 +86,40 @@ module _ (d : List ℕ) where
 
     in-range : (s : State) (b : Book) → Tracked s b → sumsOk (s .sums) ≡ true
     in-range s b T =
-        by-phase h t s (T .kept) (λ e. idle-facts h t s e (T .kept) .inRange) (λ e. rw (T .begins e .0) (zeros-good 0 .range)) (λ e. running-facts h t s e (T .kept) .inRange)
+        by-phase h t s (T .kept) (λ e. idle-facts h t s e (T .kept) .inRange) (λ e. rw (started-facts h t s (T .sized) e (T .kept)) (zeros-good 0 .range)) (λ e. running-facts h t s e (T .kept) .inRange)
 
     -- a state that the run hands on, read from its bytes, is the state
-    read-back : (s : State) (b : Book) → Tracked s b → Lengths s → stateOf (bytesOf s) ≡ s
-    read-back s b T z = state-again s (in-bytes s (T .sumsLong) (z .flags) (in-range s b T))
+    read-back : (s : State) (b : Book) → Tracked s b → stateOf (bytesOf s) ≡ s
+    read-back s b T = state-again s (in-bytes s (T .sized .sumsLong) (T .sized .flagsLong) (in-range s b T))
 
     stored-next : (s : State) (u : Use) → stored (bytesOf s) (did d s u .result .answer) ≡ bytesOf (did d s u .result .answer .state)
     stored-next s u =
         by-test (taken d (did d s u .result)) (λ e. rw e refl)
         (λ e. rw e (sym (ap bytesOf (refusal d s (u .out) (u .call) e .state))))
 
-    step : (s : State) (b : Book) → Tracked s b → Lengths s → (u : Use) → leaves d (bytesOf s) u ≡ written d (did d s u)
-    step s b T z u =
-        ap (λ (x : State). leaving (bytesOf s) (answer d x (u .call) (u .out))) (read-back s b T z)
+    step : (s : State) (b : Book) → Tracked s b → (u : Use) → leaves d (bytesOf s) u ≡ written d (did d s u)
+    step s b T u =
+        ap (λ (x : State). leaving (bytesOf s) (answer d x (u .call) (u .out))) (read-back s b T)
         ∙ ap (λ (x : List ℕ). record { state = x; out = did d s u .result .out; numbers = written d (did d s u) .numbers }) (stored-next s u)
 
     -- what a call hands on
     next-tracked : (s : State) (b : Book) (T : Tracked s b) (u : Use) → Tracked (did d s u .result .answer .state) (enter h t b (u .call) (taken d (did d s u .result)) .next)
     next-tracked s b T u = call-ok d a A s b T (u .out) (u .call) .next
 
-    runs : (us : List Use) (s : State) (b : Book) → Tracked s b → Lengths s → runBytes d (bytesOf s) us ≡ map (written d) (run d s us)
+    runs : (us : List Use) (s : State) (b : Book) → Tracked s b → runBytes d (bytesOf s) us ≡ map (written d) (run d s us)
     unfolding runBytes run
-    runs [] s b T z = refl
-    runs (u ∷ us) s b T z =
-        let e = step s b T z u in
-        ap₂ _∷_ e (ap (λ (l : Left). runBytes d (l .state) us) e ∙ runs us (did d s u .result .answer .state) _ (next-tracked s b T u) (sized d s (u .out) z (u .call)))
+    runs [] s b T = refl
+    runs (u ∷ us) s b T =
+        let e = step s b T u in
+        ap₂ _∷_ e (ap (λ (l : Left). runBytes d (l .state) us) e ∙ runs us (did d s u .result .answer .state) _ (next-tracked s b T u))
 
-    longs : (us : List Use) (s : State) (b : Book) → Tracked s b → Lengths s → All (λ l. length (l .state) ≡ 530) (map (written d) (run d s us))
+    longs : (us : List Use) (s : State) (b : Book) → Tracked s b → All (λ l. length (l .state) ≡ 530) (map (written d) (run d s us))
     unfolding run
-    longs [] s b T z = tt
-    longs (u ∷ us) s b T z =
+    longs [] s b T = tt
+    longs (u ∷ us) s b T =
         let T2 = next-tracked s b T u in
-        let z2 = sized d s (u .out) z (u .call) in
-        (length-bytes _ (replicate 530 0) (length-replicate {A = ℕ} 530 0) (z2 .flags) (T2 .sumsLong) (z2 .kept), longs us (did d s u .result .answer .state) _ T2 z2)
+        let z = T2 .sized in
+        (length-bytes _ (replicate 530 0) (length-replicate {A = ℕ} 530 0) (z .flagsLong) (z .sumsLong) (z .keptLong), longs us (did d s u .result .answer .state) _ T2)
 
     printed-written : (xs : List (Done d)) → printedBytes (map (written d) xs) ≡ printed d xs
     unfolding printedBytes printed
@@ -130,10 +129,10 @@ module _ (d : List ℕ) where
     pub demand3-bytes : (us : List Use) → Demand3Bytes d us
     demand3-bytes us =
         let T = fresh-tracks d a A freshBook refl in
-        let e = runs us (freshAt 0) freshBook T (fresh-sized 0) in
+        let e = runs us (freshAt 0) freshBook T in
         record {
           same = e;
-          long = rw e (longs us (freshAt 0) freshBook T (fresh-sized 0));
+          long = rw e (longs us (freshAt 0) freshBook T);
           prints = ap printedBytes e ∙ printed-written (run d (freshAt 0) us);
           demand3 = demand3 d a us;
         }
