@@ -12,7 +12,7 @@ use Rattle.layout.specs.declared.Pos.{Pos}
 use Rattle.layout.specs.Layout.{Due, Laid, layout, nothing}
 use Rattle.pagination.specs.Rising.{Position, spotsOf}
 
--- what is asked: INITIATE, GENERATE of a record as detail d, TERMINATE
+-- what is asked: INITIATE, GENERATE of a record as a detail, TERMINATE
 pub data Call : Type 0 where
   initiate : Call
   generate : ℕ → List ℕ → Call
@@ -35,15 +35,15 @@ module _ (h : Head) (t : List ℕ) where
   -- for a body group makes PF, then PH, due before it."
   abbrev pub dueFor : Option (List ℕ) → Call → Pos → Laid
   dueFor last initiate s = nothing s
-  dueFor none (generate d row) s = layout h t (firstPlan h (theDetail h t d)) s
-  dueFor (some old) (generate d row) s = layout h t (laterPlan h (breakLevel h t old row) (theDetail h t d)) s
+  dueFor none (generate detail row) s = layout h t (firstPlan h (theDetail h t detail)) s
+  dueFor (some old) (generate detail row) s = layout h t (laterPlan h (breakLevel h t old row) (theDetail h t detail)) s
   dueFor none terminate s = nothing s
   dueFor (some old) terminate s = layout h t (lastPlan h) s
 
   -- "INITIATE begins a report, fresh, with no row."
   abbrev pub turned : Book → Call → Laid → Book
   turned b initiate l = record { report = suc (b .report); row = none; pos = freshPos }
-  turned b (generate d row) l = record { report = b .report; row = some row; pos = l .to }
+  turned b (generate detail row) l = record { report = b .report; row = some row; pos = l .to }
   turned b terminate l = record { report = b .report; row = none; pos = l .to }
 
   -- what one call enters: the groups due, in order, and the book after it

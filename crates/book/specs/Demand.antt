@@ -38,13 +38,13 @@ module _ (d : List ℕ) where
   -- what the call answers: the definitions that the promises of INITIATE, GENERATE and TERMINATE cite
   abbrev pub answer : State → Call → List ℕ → Result
   answer s initiate out = calls.initiate d s out
-  answer s (generate i row) out = calls.generate d s i row out
+  answer s (generate detail row) out = calls.generate d s detail row out
   answer s terminate out = calls.terminate d s out
 
   -- what the call's items read, by demand 2's definition
   abbrev pub reads : State → Call → Reading
   reads s initiate = reading [] [] [] [] false noPrefix
-  reads s (generate i row) = rowWork h t (literals d) s i row .inputs
+  reads s (generate detail row) = rowWork h t (literals d) s detail row .inputs
   reads s terminate = lastWork h t (literals d) s .inputs
 
   pub record Done : Type 0 where

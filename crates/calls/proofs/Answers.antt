@@ -19,24 +19,24 @@ use Rattle.work.specs.Work.{settled}
 use Rattle.work.specs.Rows.{firstWork, laterWork, lastWork}
 use Rattle.calls.specs.Calls.{tried, callOn}
 
-module _ (h : Head) (t lits : List ℕ) (s : State) (out : List ℕ) (r : Answer) (new : List ℕ) where
+module _ (h : Head) (t lits : List ℕ) (s : State) (out : List ℕ) {r : Answer} {new : List ℕ} where
   module _ (a : Asked) (row : List ℕ) where
-    pub call-refused : (v : Verdict) → tried h t s a row ≡ Refused v → r ≡ refusal s v → new ≡ out → Returns (callOn h t lits s a row out) r new
+    pub call-refused : {v : Verdict} → tried h t s a row ≡ Refused v → r ≡ refusal s v → new ≡ out → Returns (callOn h t lits s a row out) r new
     unfolding callOn
-    call-refused v e q o = rw e (record { answerIs = q; outIs = o })
+    call-refused e q o = rw e (record { answerIs = q; outIs = o })
 
     module _ (e : tried h t s a row ≡ Passed) where
       pub call-begun : a ≡ Initiate → r ≡ accepted (freshAt started) → new ≡ out → Returns (callOn h t lits s a row out) r new
       unfolding callOn
       call-begun i q o = rw (e, i) (record { answerIs = q; outIs = o })
 
-      pub call-first : (d : ℕ) → a ≡ Generate d → s .phase ≡ started → Returns (settled h t s (firstWork h t lits s d row) out) r new → Returns (callOn h t lits s a row out) r new
+      pub call-first : {detail : ℕ} → a ≡ Generate detail → s .phase ≡ started → Returns (settled h t s (firstWork h t lits s detail row) out) r new → Returns (callOn h t lits s a row out) r new
       unfolding callOn
-      call-first d i p x = rw (e, i, eq-eqb (s .phase) started p) x
+      call-first i p x = rw (e, i, eq-eqb (s .phase) started p) x
 
-      pub call-later : (d : ℕ) → a ≡ Generate d → (s .phase ≡ started → ⊥) → Returns (settled h t s (laterWork h t lits s d row) out) r new → Returns (callOn h t lits s a row out) r new
+      pub call-later : {detail : ℕ} → a ≡ Generate detail → (s .phase ≡ started → ⊥) → Returns (settled h t s (laterWork h t lits s detail row) out) r new → Returns (callOn h t lits s a row out) r new
       unfolding callOn
-      call-later d i p x = rw (e, i, ne-eqb (s .phase) started p) x
+      call-later i p x = rw (e, i, ne-eqb (s .phase) started p) x
 
       pub call-ended : a ≡ Terminate → s .phase ≡ started → r ≡ accepted (freshAt idle) → new ≡ out → Returns (callOn h t lits s a row out) r new
       unfolding callOn
@@ -48,8 +48,8 @@ module _ (h : Head) (t lits : List ℕ) (s : State) (out : List ℕ) (r : Answer
 
 -- ---- what passing the tests says, by what is asked
 module _ (h : Head) (t : List ℕ) (s : State) (a : Asked) (row : List ℕ) where
-  pub asked-row : (d : ℕ) → tried h t s a row ≡ Passed → a ≡ Generate d → Begun h t s × RowIn h t d row
-  asked-row d e i = row-begun h t s d row (rw i at e)
+  pub asked-row : {detail : ℕ} → tried h t s a row ≡ Passed → a ≡ Generate detail → Begun h t s × RowIn h t detail row
+  asked-row e i = row-begun h t s _ row (rw i at e)
 
   pub asked-end : tried h t s a row ≡ Passed → a ≡ Terminate → Begun h t s
   asked-end e i = begun h t s (rw i at e)

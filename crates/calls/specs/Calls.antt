@@ -19,7 +19,7 @@ use Rattle.work.specs.Rows.{rowWork, lastWork}
 -- refusals 2 to 6
 abbrev pub triedIn : Head → List ℕ → Bool → ℕ → Asked → List ℕ → Tried
 triedIn h t ok phase Initiate row = startIn ok phase
-triedIn h t ok phase (Generate d) row = rowIn h t ok phase d row
+triedIn h t ok phase (Generate detail) row = rowIn h t ok phase detail row
 triedIn h t ok phase Terminate row = begunIn ok phase
 
 abbrev pub tried : Head → List ℕ → State → Asked → List ℕ → Tried
@@ -36,7 +36,7 @@ ended out = record { answer = accepted (freshAt idle); out = out }
 -- the work, by what is asked
 abbrev pub done : Head → List ℕ → List ℕ → State → Asked → List ℕ → List ℕ → Result
 done h t lits s Initiate row out = begun out
-done h t lits s (Generate d) row out = settled h t s (rowWork h t lits s d row) out
+done h t lits s (Generate detail) row out = settled h t s (rowWork h t lits s detail row) out
 done h t lits s Terminate row out = cond (eqb (s .phase) started) (ended out) (settled h t s (lastWork h t lits s) out)
 
 -- it is done where no test refuses

@@ -23,7 +23,7 @@ pub fn tried(t: &[u16], h: Head, ok: bool, phase: u8, asked: Asked, rec: &[u8]) 
 {
     match asked {
         Asked::Initiate => refusals::start_tried(ok, phase),
-        Asked::Generate(d) => refusals::row_tried(t, h, ok, phase, d, rec),
+        Asked::Generate(detail) => refusals::row_tried(t, h, ok, phase, detail, rec),
         Asked::Terminate => refusals::begun_tried(ok, phase),
     }
 }
@@ -47,11 +47,11 @@ pub fn call_on(
         Tried::Refused(v) => answer::refusal(s, v),
         Tried::Passed => match asked {
             Asked::Initiate => answer::accepted(State::at_phase(State::STARTED)),
-            Asked::Generate(d) => {
+            Asked::Generate(detail) => {
                 if s.phase == State::STARTED {
-                    work::first_row(t, h, lits, s, d, rec, out)
+                    work::first_row(t, h, lits, s, detail, rec, out)
                 } else {
-                    work::later_row(t, h, lits, s, d, rec, out)
+                    work::later_row(t, h, lits, s, detail, rec, out)
                 }
             }
             Asked::Terminate => {

@@ -69,7 +69,7 @@ module _ (h : Head) (t lits : List ℕ) (s : State) (out : List ℕ) where
         (λ f. rw (n, g, l, f)
         (B .row (eqb-false (s .phase) idle n) i row
         (record {
-          detail = ltb-true (theDetail h t i) (h .groups) g;
+          named = ltb-true (theDetail h t i) (h .groups) g;
           long = eqb-true (length row) (h .reclen) l;
           good = not-false (formed h t row) (sym (first-malformed h t row) ∙ f);
         }))))

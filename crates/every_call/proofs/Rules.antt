@@ -39,7 +39,7 @@ use Rattle.work.specs.Work.{Work, moved, settled}
 use Rattle.work.specs.Rows.{cleared, breaks, firstWork, laterWork, rowWork, lastWork}
 use Rattle.calls.specs.Calls.{callOn}
 use Rattle.work.specs.Facts.{Stands}
-use Rattle.work.proofs.Ready.{zeros-good, running-good}
+use Rattle.work.proofs.Ready.{zeros-good, good-sums}
 use Rattle.every_call.proofs.Settles.{each-settled}
 use Rattle.every_call.proofs.Branches.{each-call}
 
@@ -124,7 +124,7 @@ module _ (h : Head) (t lits : List ℕ) (A : Accepted h t lits) where
 
       pub first-laid : (r : ℕ) → LaidRunning h t r (placeOf s) (firstWork h t lits s i row .laid)
       unfolding firstWork
-      first-laid r = first-placed h t r (A .pageFits) (theDetail h t i) (placeOf s) (λ p. detail-is h t i (R .detail)) (ap (λ (x : State). x .page) fresh) (ap (λ (x : State). x .line) fresh)
+      first-laid r = first-placed h t r (A .pageFits) (theDetail h t i) (placeOf s) (λ p. detail-is h t i (R .named)) (ap (λ (x : State). x .page) fresh) (ap (λ (x : State). x .line) fresh)
 
       pub first-stands : firstWork h t lits s i row .laid .to .page ≤ lastPage → Stands h t lits (moved (firstWork h t lits s i row) (firstWork h t lits s i row .laid .to))
       unfolding firstWork
@@ -149,7 +149,7 @@ module _ (h : Head) (t lits : List ℕ) (A : Accepted h t lits) where
       place = record { body = facts .body; fresh = facts .noBody; kept = facts .saving }
 
       good : GoodSums (h .counters) (s .sums)
-      good = running-good h t lits A s S e
+      good = good-sums facts (S .sized .sumsLong)
 
       pub running-page : 1 ≤ s .page
       running-page = facts .first
@@ -181,7 +181,7 @@ module _ (h : Head) (t lits : List ℕ) (A : Accepted h t lits) where
 
         pub later-laid : (r : ℕ) → LaidRunning h t r (placeOf s) (laterWork h t lits s i row .laid)
         unfolding laterWork
-        later-laid r = later-placed h t r (A .pageFits) level (theDetail h t i) (placeOf s) (λ p. detail-is h t i (R .detail)) place
+        later-laid r = later-placed h t r (A .pageFits) level (theDetail h t i) (placeOf s) (λ p. detail-is h t i (R .named)) place
 
         pub later-stands : laterWork h t lits s i row .laid .to .page ≤ lastPage → Stands h t lits (moved (laterWork h t lits s i row) (laterWork h t lits s i row .laid .to))
         unfolding laterWork

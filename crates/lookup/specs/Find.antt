@@ -15,7 +15,7 @@ isAt h t type level i = eqb (typeOf h t i) type && eqb (levelOf h t i) level
 unfoldable pub theGroup : Head → List ℕ → ℕ → ℕ → ℕ
 theGroup h t type level = firstBelow (h .groups) (isAt h t type level)
 
--- "Details are numbered in group order": the detail with n details before it, or the number of groups where there is none
+-- "Details are numbered in group order": a detail's number is how many stand before it; where no group has it, the number of groups
 abbrev pub detailBit : Head → List ℕ → ℕ → ℕ
 detailBit h t i = bit (eqb (typeOf h t i) typeDE)
 
@@ -23,7 +23,7 @@ unfoldable pub details : Head → List ℕ → ℕ
 details h t = sumBelow (h .groups) (detailBit h t)
 
 abbrev pub isDetail : Head → List ℕ → ℕ → ℕ → Bool
-isDetail h t n i = eqb (typeOf h t i) typeDE && eqb (sumBelow i (detailBit h t)) n
+isDetail h t detail i = eqb (typeOf h t i) typeDE && eqb (sumBelow i (detailBit h t)) detail
 
 unfoldable pub theDetail : Head → List ℕ → ℕ → ℕ
-theDetail h t n = firstBelow (h .groups) (isDetail h t n)
+theDetail h t detail = firstBelow (h .groups) (isDetail h t detail)

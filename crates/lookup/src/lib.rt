@@ -59,16 +59,16 @@ pub fn find(t: &[u16], h: Head, kind: usize, level: usize) -> usize
     i
 }
 
-// Detail number `d`, or the number of groups.
-pub fn find_detail(t: &[u16], h: Head, d: usize) -> usize
-    ensures { λ r. ⌜ (r ≡ theDetail h (now (t .entry)) d) × (r ≤ h .groups) ⌝ }
+// The detail with this number, or the number of groups.
+pub fn find_detail(t: &[u16], h: Head, detail: usize) -> usize
+    ensures { λ r. ⌜ (r ≡ theDetail h (now (t .entry)) detail) × (r ≤ h .groups) ⌝ }
 {
     let n = tables::wide(h.groups);
     let mut found = 0;
     let mut i = 0;
     while i < n {
         let kind = tables::group_num(t, h, i, 0);
-        let this = (kind == tables::DE) & (found == d);
+        let this = (kind == tables::DE) & (found == detail);
         if this {
             break;
         }

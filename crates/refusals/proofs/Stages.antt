@@ -49,19 +49,19 @@ module _ (h : Head) (t : List ℕ) (s : state.State) where
   pub running-else : Begun h t s → (s .phase ≡ started → ⊥) → s .phase ≡ running
   running-else b n = by-phase h t s (b .rules) (λ p. absurd (b .busy p)) (λ p. absurd (n p)) (λ p. p)
 
-  module _ (d : ℕ) (row : List ℕ) where
-    pub row-begun : rowTried h t s d row ≡ Passed → Begun h t s × RowIn h t d row
+  module _ (detail : ℕ) (row : List ℕ) where
+    pub row-begun : rowTried h t s detail row ≡ Passed → Begun h t s × RowIn h t detail row
     unfolding recordTried
     row-begun e =
         both (begunTried h t s) _ e
-        (λ x y. both (detailTried h t d) _ y
-        (λ u w. guarded (ltb (theDetail h t d) (h .groups)) Detail Passed u
+        (λ x y. both (detailTried h t detail) _ y
+        (λ u w. guarded (ltb (theDetail h t detail) (h .groups)) Detail Passed u
         (λ g _. guarded (eqb (length row) (h .reclen)) Length _ w
         (λ l z. unguarded (ltb (firstMalformed h t row) (h .fields)) (Field (firstMalformed h t row)) Passed z
         (λ f _. (
           begun x,
           record {
-            detail = ltb-true (theDetail h t d) (h .groups) g;
+            named = ltb-true (theDetail h t detail) (h .groups) g;
             long = eqb-true (length row) (h .reclen) l;
             good = not-false (formed h t row) (sym (first-malformed h t row) ∙ f);
           },

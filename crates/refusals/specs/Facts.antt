@@ -16,8 +16,8 @@ pub record Begun (h : Head) (t : List ℕ) (s : State) : Type 0 where
   pub rules : stateOk h t s ≡ true
   pub busy : s .phase ≡ idle → ⊥
 
--- a row of detail d
-pub record RowIn (h : Head) (t : List ℕ) (d : ℕ) (row : List ℕ) : Type 0 where
-  pub detail : theDetail h t d < h .groups
+-- a row of a detail
+pub record RowIn (h : Head) (t : List ℕ) (detail : ℕ) (row : List ℕ) : Type 0 where
+  pub named : theDetail h t detail < h .groups
   pub long : length row ≡ h .reclen
   pub good : formed h t row ≡ true

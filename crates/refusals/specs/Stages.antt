@@ -35,7 +35,7 @@ begunTried h t s = begunIn (stateOk h t s) (s .phase)
 
 -- "4 | d names no detail group"
 abbrev pub detailTried : Head → List ℕ → ℕ → Tried
-detailTried h t d = cond (ltb (theDetail h t d) (h .groups)) Passed (Refused Detail)
+detailTried h t detail = cond (ltb (theDetail h t detail) (h .groups)) Passed (Refused Detail)
 
 -- "5 | record length is not the described one"; "6 | a field's bytes are malformed", with the "first such field"
 unfoldable pub recordTried : Head → List ℕ → List ℕ → Tried
@@ -46,7 +46,7 @@ recordTried h t row =
 
 -- 2 and 3, then 4, then 5 and 6
 abbrev pub rowIn : Head → List ℕ → Bool → ℕ → ℕ → List ℕ → Tried
-rowIn h t ok phase d row = then (begunIn ok phase) (then (detailTried h t d) (recordTried h t row))
+rowIn h t ok phase detail row = then (begunIn ok phase) (then (detailTried h t detail) (recordTried h t row))
 
 abbrev pub rowTried : Head → List ℕ → state.State → ℕ → List ℕ → Tried
-rowTried h t s d row = rowIn h t (stateOk h t s) (s .phase) d row
+rowTried h t s detail row = rowIn h t (stateOk h t s) (s .phase) detail row

@@ -51,10 +51,10 @@ pub fn begun_tried(ok: bool, phase: u8) -> Tried
 }
 
 // Refusal 4.
-pub fn detail_tried(t: &[u16], h: Head, d: usize) -> Tried
-    ensures { λ r. ⌜ r ≡ detailTried h (now (t .entry)) d ⌝ }
+pub fn detail_tried(t: &[u16], h: Head, detail: usize) -> Tried
+    ensures { λ r. ⌜ r ≡ detailTried h (now (t .entry)) detail ⌝ }
 {
-    if lookup::find_detail(t, h, d) < tables::wide(h.groups) {
+    if lookup::find_detail(t, h, detail) < tables::wide(h.groups) {
         Tried::Passed
     } else {
         Tried::Refused(Verdict::Detail)
@@ -78,12 +78,12 @@ pub fn record_tried(t: &[u16], h: Head, rec: &[u8]) -> Tried
 }
 
 // Refusals 2 to 6 of GENERATE.
-pub fn row_tried(t: &[u16], h: Head, ok: bool, phase: u8, d: usize, rec: &[u8]) -> Tried
+pub fn row_tried(t: &[u16], h: Head, ok: bool, phase: u8, detail: usize, rec: &[u8]) -> Tried
     requires { ⌜ FieldsIn h (now t) ⌝ }
-    ensures { λ r. ⌜ r ≡ rowIn h (now (t .entry)) ok phase d (now (rec .entry)) ⌝ }
+    ensures { λ r. ⌜ r ≡ rowIn h (now (t .entry)) ok phase detail (now (rec .entry)) ⌝ }
 {
     then(
         begun_tried(ok, phase),
-        then(detail_tried(t, h, d), record_tried(t, h, rec)),
+        then(detail_tried(t, h, detail), record_tried(t, h, rec)),
     )
 }

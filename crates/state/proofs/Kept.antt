@@ -11,6 +11,7 @@ use lib.Dec.{ltb}
 use lib.ListN.{length, getD, take, drop, replicate, length-drop, length-replicate, getD-replicate}
 use lib.Seq.{take-append-le, drop-append-le, getD-append-add, getD-drop}
 use Rattle.counts.specs.Below.{allBelow}
+use Rattle.counts.proofs.Laws.{length-listBelow, list-at}
 use Rattle.splice.specs.Splice.{splice}
 use Rattle.splice.proofs.Laws.{length-splice}
 use Rattle.tables.specs.declared.Head.{Head}
@@ -54,18 +55,15 @@ padded-zero row i l m =
     ∙ ap (λ (k : ℕ). getD zeros k 0) e
     ∙ getD-replicate keptSize i 0 0 m
 
--- a field inside the record is kept as it was
-pub padded-part : (t row : List ℕ) (i : ℕ) → fieldOffset t i + fieldWidth t i ≤ length row → fieldPart t (paddedRow row) i ≡ fieldPart t row i
-padded-part t row i l =
-    let o = fieldOffset t i in
-    let w = fieldWidth t i in
-    ap (λ (s : List ℕ). take w (drop o s)) (padded-append row)
-    ∙ ap (take w) (drop-append-le o row (drop (length row) zeros) (omega arith))
-    ∙ take-append-le w (drop o row) (drop (length row) zeros) (simp length-drop (omega arith))
-
 module _ {h : Head} {t : List ℕ} (row : List ℕ) (f : FieldsIn h t) (l : h .reclen ≤ length row) where
+  -- a field inside the record is kept as it was
   in-row : (i : ℕ) → i < h .fields → fieldPart t (paddedRow row) i ≡ fieldPart t row i
-  in-row i m = padded-part t row i (omega (arith, f .inside i m))
+  in-row i m =
+      let o = fieldOffset t i in
+      let w = fieldWidth t i in
+      ap (λ (s : List ℕ). take w (drop o s)) (padded-append row)
+      ∙ ap (take w) (drop-append-le o row (drop (length row) zeros) (omega (arith, f .inside i m)))
+      ∙ take-append-le w (drop o row) (drop (length row) zeros) (simp length-drop (omega (arith, f .inside i m)))
 
   -- so are its well-formedness and the values of its controls
   pub padded-formed : formed h t (paddedRow row) ≡ formed h t row
@@ -83,20 +81,9 @@ module _ {h : Head} {t : List ℕ} (row : List ℕ) (f : FieldsIn h t) (l : h .r
 
 pub length-flagsSet : (n : ℕ) → length (flagsSet n) ≡ flagCount
 unfolding flagsSet
-length-flagsSet n = refl
-
-pub flagsSet-at : (n i : ℕ) → i < flagCount → getD (flagsSet n) i false ≡ ltb i n
-unfolding flagsSet
-flagsSet-at n zero l = refl
-flagsSet-at n (suc zero) l = refl
-flagsSet-at n (suc (suc zero)) l = refl
-flagsSet-at n (suc (suc (suc zero))) l = refl
-flagsSet-at n (suc (suc (suc (suc zero)))) l = refl
-flagsSet-at n (suc (suc (suc (suc (suc zero))))) l = refl
-flagsSet-at n (suc (suc (suc (suc (suc (suc zero)))))) l = refl
-flagsSet-at n (suc (suc (suc (suc (suc (suc (suc zero))))))) l = refl
-flagsSet-at n (suc (suc (suc (suc (suc (suc (suc (suc i)))))))) l = absurd (omega arith)
+length-flagsSet n = length-listBelow flagCount (λ i. ltb i n)
 
 -- flags beyond the details are clear
 pub flagsSet-beyond : (n i : ℕ) → n ≤ i → i < flagCount → getD (flagsSet n) i false ≡ false
-flagsSet-beyond n i l m = flagsSet-at n i m ∙ le-ltb i n l
+unfolding flagsSet
+flagsSet-beyond n i l m = list-at false flagCount (λ k. ltb k n) i m ∙ le-ltb i n l

@@ -12,10 +12,10 @@ use Rattle.counts.proofs.Laws.{by-test}
 use lib.IntN.{ℤ, pos}
 use lib.ListN.{length, getD, replicate, length-replicate, List·getD-eq-default}
 use Rattle.tables.specs.declared.Head.{Head}
+use Rattle.lookup.specs.Find.{theDetail}
 use Rattle.rows.specs.Facts.{Formed, Comparable}
-use Rattle.rows.specs.Fields.{formed}
 use Rattle.sums.specs.Sums.{sumsOk}
-use Rattle.sums.specs.Facts.{Adding}
+use Rattle.sums.specs.Facts.{CountersIn, Adding}
 use Rattle.amounts.specs.Totals.{fresh, totalsFirst, totalsLater, totalsLast}
 use Rattle.amounts.proofs.Good.{GoodSums, first-good, later-good, last-good}
 use Rattle.place.specs.Place.{lastPage}
@@ -29,8 +29,8 @@ use Rattle.layout.specs.declared.Pos.{Pos}
 use Rattle.layout.specs.Facts.{Called}
 use Rattle.call_text.specs.Facts.{Printable}
 use Rattle.state.specs.declared.State.{State}
-use Rattle.state.specs.State.{started, running, freshAt}
-use Rattle.state_rules.specs.Facts.{Testable, RunningState}
+use Rattle.state.specs.State.{started, running, sumCount, flagCount, keptSize, freshAt}
+use Rattle.state_rules.specs.Facts.{RunningState}
 use Rattle.state.specs.Kept.{paddedRow}
 use Rattle.state_rules.proofs.States.{started-facts, running-facts, running-formed}
 use Rattle.state.proofs.Kept.{padded-whole}
@@ -46,111 +46,100 @@ zeros-at (suc n) zero = refl
 zeros-at (suc n) (suc i) = zeros-at n i
 
 -- sums that are all 0
-pub zeros-good : (n : ℕ) → GoodSums n (replicate 32 (pos 0))
+pub zeros-good : (n : ℕ) → GoodSums n (replicate sumCount (pos 0))
 unfolding sumsOk allBelow
-zeros-good n = record { range = refl; long = length-replicate 32 (pos 0); beyond = λ i m. zeros-at 32 i }
+zeros-good n = record { range = refl; long = length-replicate sumCount (pos 0); beyond = λ i m. zeros-at sumCount i }
 
-module _ (h : Head) (t lits : List ℕ) (A : Accepted h t lits) where
-  pub testable : Testable h t
-  testable = record { fields = A .fieldsIn; short = A .record256 }
+module _ {h : Head} {t lits : List ℕ} (A : Accepted h t lits) where
+  called : {p : Plan} {s : Pos} → Planned h p → s .page ≤ lastPage → Called h t p s
+  called q l = record { small = A .small; planned = q; page = l }
 
-  pub detail-few : (d : ℕ) (row : List ℕ) → RowIn h t d row → d < 8
-  detail-few d row r = omega (arith, detail-counted h t d (r .detail), A .details8)
-
-  pub row-formed : (d : ℕ) (row : List ℕ) → RowIn h t d row → Formed h t row
-  row-formed d row r = record { whole = record { fields = A .fieldsIn; long = omega (arith, r .long) }; formed = r .good }
-
-  called : (p : Plan) (s : Pos) → Planned h p → s .page ≤ lastPage → Called h t p s
-  called p s q l = record { small = A .small; planned = q; page = l }
-
-  pub first-planned : (g : ℕ) → g ≤ h .groups → Planned h (firstPlan h g)
-  first-planned g l = record { level = omega arith; feet = omega arith; heads = A .controls8; detail = l }
-
-  pub later-planned : (b g : ℕ) → b ≤ h .controls → g ≤ h .groups → Planned h (laterPlan h b g)
-  later-planned b g m l = record { level = omega (arith, A .controls8); feet = omega (arith, A .controls8); heads = omega (arith, A .controls8); detail = l }
-
-  pub last-planned : Planned h (lastPlan h)
-  last-planned = record { level = omega arith; feet = A .controls8; heads = omega arith; detail = omega arith }
-
-  pub printable : (kept row : List ℕ) (sums : List ℤ) (flag : Bool) → Formed h t kept → Formed h t row → length sums ≡ 32 → Printable h t (reading lits kept row sums flag noPrefix)
+  printable : (kept row : List ℕ) (sums : List ℤ) (flag : Bool) → Formed h t kept → Formed h t row → length sums ≡ sumCount → Printable h t (reading lits kept row sums flag noPrefix)
   printable kept row sums flag k r n = record {
     items = A .itemsIn;
     readable = record { kept = k; row = r; sums = omega (arith, A .countersIn .few) };
     prefix = no-prefix-short;
   }
 
-  -- ---- a started state and its first row
-  module _ (s : State) (S : Stands h t lits s) (d : ℕ) (row : List ℕ) (R : RowIn h t d row) where
-    row-in : Formed h t row
-    row-in = row-formed d row R
+-- ---- a row that passed its tests
+abbrev pub RowAt : ℕ → Head → List ℕ → List ℕ → State → ℕ → List ℕ → Type 0
+RowAt phase h t lits s detail row = Stands h t lits s × (RowIn h t detail row × (s .phase ≡ phase))
 
-    adding : sumsOk (s .sums) ≡ true → Adding h t row d (fresh (s .sums))
-    adding e = record { counters = A .countersIn; row = row-in; detail = detail-few d row R; range = record { sums = e } }
+module _ {phase : ℕ} {h : Head} {t lits : List ℕ} {s : State} {detail : ℕ} {row : List ℕ} (p : RowAt phase h t lits s detail row) where
+  pub detail-few : detail < flagCount
+  detail-few = omega (arith, detail-counted h t detail (p .1 .0 .named), p .0 .accepted .details8)
 
-    module _ (e : s .phase ≡ started) where
-      fresh-one : s ≡ freshAt started
-      fresh-one = started-facts h t s (S .sized) e (S .rules)
+  pub row-short : length row ≤ keptSize
+  row-short = omega (arith, p .1 .0 .long, p .0 .accepted .record256)
 
-      zero-sums : GoodSums (h .counters) (s .sums)
-      zero-sums = rw (ap (λ (x : State). x .sums) fresh-one) (zeros-good (h .counters))
+  row-formed : Formed h t row
+  row-formed = record { whole = record { fields = p .0 .accepted .fieldsIn; long = omega (arith, p .1 .0 .long) }; formed = p .1 .0 .good }
 
-      pub first-adding : Adding h t row d (fresh (s .sums))
-      first-adding = adding (zero-sums .range)
+  adding : sumsOk (s .sums) ≡ true → Adding h t row detail (fresh (s .sums))
+  adding e = record { counters = p .0 .accepted .countersIn; row = row-formed; detail = detail-few; range = record { sums = e } }
 
-      pub first-called : (g : ℕ) → g ≤ h .groups → Called h t (firstPlan h g) (placeOf s)
-      first-called g l = called (firstPlan h g) (placeOf s) (first-planned g l) (omega (arith, ap (λ (x : State). x .page) fresh-one))
+  -- what clearing its flag asks
+  pub clearable : {g : ℕ} → (g ≡ theDetail h t detail) × (g ≤ h .groups) → (detail < flagCount) × ((g ≡ theDetail h t detail) × (g < 65536))
+  clearable f = (detail-few, (f .0, omega (arith, f .1, p .0 .accepted .groups32)))
 
-      pub first-long : length (totalsFirst h t row d (s .sums) .shown) ≡ 32
-      first-long = first-good h t (A .countersIn .few) (s .sums) zero-sums row d .long
+-- ---- the first row, of a started state
+module _ {h : Head} {t lits : List ℕ} {s : State} {detail : ℕ} {row : List ℕ} (p : RowAt started h t lits s detail row) where
+  fresh-one : s ≡ freshAt started
+  fresh-one = started-facts h t s (p .0 .sized) (p .1 .1) (p .0 .rules)
 
-      pub first-printable : Printable h t (reading lits (paddedRow row) row (totalsFirst h t row d (s .sums) .shown) true noPrefix)
-      first-printable =
-          printable (paddedRow row) row (totalsFirst h t row d (s .sums) .shown) true
-          (padded-whole row (A .fieldsIn) (omega (arith, R .long)) (omega (arith, R .long, A .record256)) (R .good))
-          row-in
-          first-long
+  zero-sums : GoodSums (h .counters) (s .sums)
+  zero-sums = rw (ap (λ (x : State). x .sums) fresh-one) (zeros-good (h .counters))
 
-  -- ---- a running state
-  module _ (s : State) (S : Stands h t lits s) (e : s .phase ≡ running) where
-    facts : RunningState h t s
-    facts = running-facts h t s e (S .rules)
+  pub first-adding : Adding h t row detail (fresh (s .sums))
+  first-adding = adding p (zero-sums .range)
 
-    kept-in : Formed h t (s .kept)
-    kept-in = running-formed h t s testable (S .sized) facts
+  pub first-prints : {g : ℕ} → g ≤ h .groups
+      → Called h t (firstPlan h g) (placeOf s) × (Printable h t (reading lits (paddedRow row) row (totalsFirst h t row detail (s .sums) .shown) true noPrefix) × (length (totalsFirst h t row detail (s .sums) .shown) ≡ sumCount))
+  first-prints l =
+      let A = p .0 .accepted in
+      let n = first-good h t (A .countersIn .few) (s .sums) zero-sums row detail .long in (
+        called A (record { level = omega arith; feet = omega arith; heads = A .controls8; detail = l }) (omega (arith, ap (λ (x : State). x .page) fresh-one)),
+        (printable A (paddedRow row) row _ true (padded-whole row (A .fieldsIn) (omega (arith, p .1 .0 .long)) (row-short p) (p .1 .0 .good)) (row-formed p) n, n),
+      )
 
-    pub running-good : GoodSums (h .counters) (s .sums)
-    running-good = record {
-      range = facts .inRange;
-      long = S .sized .sumsLong;
-      beyond = λ i m. by-test (ltb i 32) (λ q. facts .beyondSums i m (ltb-true i 32 q)) (λ q. List·getD-eq-default (s .sums) (pos 0) (omega (arith, ltb-false i 32 q, S .sized .sumsLong)));
-    }
+-- ---- a running state
+pub good-sums : {h : Head} {t : List ℕ} {s : State} → RunningState h t s → length (s .sums) ≡ sumCount → GoodSums (h .counters) (s .sums)
+good-sums {s = s} f n = record {
+  range = f .inRange;
+  long = n;
+  beyond = λ i m. by-test (ltb i sumCount) (λ q. f .beyondSums i m (ltb-true i sumCount q)) (λ q. List·getD-eq-default (s .sums) (pos 0) (omega (arith, ltb-false i sumCount q)));
+}
 
-    pub last-sums : sumsOk (s .sums) ≡ true
-    last-sums = facts .inRange
+module _ {h : Head} {t lits : List ℕ} {s : State} (S : Stands h t lits s) (e : s .phase ≡ running) where
+  facts : RunningState h t s
+  facts = running-facts h t s e (S .rules)
 
-    pub last-called : Called h t (lastPlan h) (placeOf s)
-    last-called = called (lastPlan h) (placeOf s) last-planned (facts .last)
+  kept-in : Formed h t (s .kept)
+  kept-in = running-formed h t s (record { fields = S .accepted .fieldsIn; short = S .accepted .record256 }) (S .sized) facts
 
-    pub last-long : length (totalsLast h t (s .sums) .shown) ≡ 32
-    last-long = last-good h t (A .countersIn .few) (s .sums) running-good .long
+  pub last-adding : CountersIn h t × (sumsOk (s .sums) ≡ true)
+  last-adding = (S .accepted .countersIn, facts .inRange)
 
-    pub last-printable : Printable h t (reading lits (s .kept) (s .kept) (totalsLast h t (s .sums) .shown) false noPrefix)
-    last-printable = printable (s .kept) (s .kept) (totalsLast h t (s .sums) .shown) false kept-in kept-in last-long
+  pub last-prints : Called h t (lastPlan h) (placeOf s) × (Printable h t (reading lits (s .kept) (s .kept) (totalsLast h t (s .sums) .shown) false noPrefix) × (length (totalsLast h t (s .sums) .shown) ≡ sumCount))
+  last-prints =
+      let A = S .accepted in
+      let n = last-good h t (A .countersIn .few) (s .sums) (good-sums facts (S .sized .sumsLong)) .long in (
+        called A (record { level = omega arith; feet = A .controls8; heads = omega arith; detail = omega arith }) (facts .last),
+        (printable A (s .kept) (s .kept) _ false kept-in kept-in n, n),
+      )
 
-    -- and its row
-    module _ (d : ℕ) (row : List ℕ) (R : RowIn h t d row) where
-      pub later-comparable : Comparable h t (s .kept) row
-      later-comparable = record { controls = A .controlsIn; keptFormed = kept-in; rowFormed = row-formed d row R }
+-- and its row
+module _ {h : Head} {t lits : List ℕ} {s : State} {detail : ℕ} {row : List ℕ} (p : RowAt running h t lits s detail row) where
+  pub later-comparable : Comparable h t (s .kept) row
+  later-comparable = record { controls = p .0 .accepted .controlsIn; keptFormed = kept-in (p .0) (p .1 .1); rowFormed = row-formed p }
 
-      pub later-adding : Adding h t row d (fresh (s .sums))
-      later-adding = adding s S d row R (facts .inRange)
+  pub later-adding : Adding h t row detail (fresh (s .sums))
+  later-adding = adding p (facts (p .0) (p .1 .1) .inRange)
 
-      pub later-called : (b g : ℕ) → b ≤ h .controls → g ≤ h .groups → Called h t (laterPlan h b g) (placeOf s)
-      later-called b g m l = called (laterPlan h b g) (placeOf s) (later-planned b g m l) (facts .last)
-
-      pub later-long : (b : ℕ) → length (totalsLater h t row d b (s .sums) .shown) ≡ 32
-      later-long b = later-good h t (A .countersIn .few) (s .sums) running-good row d b .long
-
-      pub later-printable : (b : ℕ) (flag : Bool) → Printable h t (reading lits (s .kept) row (totalsLater h t row d b (s .sums) .shown) flag noPrefix)
-      later-printable b flag =
-          printable (s .kept) row (totalsLater h t row d b (s .sums) .shown) flag kept-in (row-formed d row R) (later-long b)
+  pub later-prints : {b g : ℕ} (flag : Bool) → b ≤ h .controls → g ≤ h .groups
+      → Called h t (laterPlan h b g) (placeOf s) × Printable h t (reading lits (s .kept) row (totalsLater h t row detail b (s .sums) .shown) flag noPrefix)
+  later-prints {b} flag m l =
+      let A = p .0 .accepted in (
+        called A (record { level = omega (arith, A .controls8); feet = omega (arith, A .controls8); heads = omega (arith, A .controls8); detail = l }) (facts (p .0) (p .1 .1) .last),
+        printable A (s .kept) row _ flag (kept-in (p .0) (p .1 .1)) (row-formed p) (later-good h t (A .countersIn .few) (s .sums) (good-sums (facts (p .0) (p .1 .1)) (p .0 .sized .sumsLong)) row detail b .long),
+      )

@@ -13,11 +13,11 @@ use Rattle.answer.specs.declared.Answer.{Answer}
 use Rattle.answer.specs.Result.{refusal, answered, Returns}
 use Rattle.work.specs.Work.{Work, moved, settled}
 
-module _ (h : Head) (t : List ℕ) (s : State) (w : Work) (out : List ℕ) where
-  pub sums-refused : (r : Answer) → w .ok ≡ false → r ≡ refusal s Sum → Returns (settled h t s w out) r out
+module _ (h : Head) (t : List ℕ) (s : State) (w : Work) (out : List ℕ) {r : Answer} where
+  pub sums-refused : w .ok ≡ false → r ≡ refusal s Sum → Returns (settled h t s w out) r out
   unfolding settled
-  sums-refused r e q = rw e (record { answerIs = q; outIs = refl })
+  sums-refused e q = rw e (record { answerIs = q; outIs = refl })
 
-  pub answered-so : (o : Outcome) (r : Answer) (new : List ℕ) → w .ok ≡ true → r ≡ answered s (moved w) o → Answered h t (w .inputs) (w .laid) out new o → Returns (settled h t s w out) r new
+  pub answered-so : {o : Outcome} {new : List ℕ} → w .ok ≡ true → r ≡ answered s (moved w) o → Answered h t (w .inputs) (w .laid) out new o → Returns (settled h t s w out) r new
   unfolding settled
-  answered-so o r new e q a = rw e (record { answerIs = q ∙ ap (answered s (moved w)) (a .is); outIs = a .out })
+  answered-so e q a = rw e (record { answerIs = q ∙ ap (answered s (moved w)) (a .is); outIs = a .out })

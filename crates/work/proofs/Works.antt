@@ -21,19 +21,19 @@ use Rattle.answer.specs.Result.{Returns}
 use Rattle.work.specs.Work.{jobOf, prepared, settled}
 use Rattle.work.specs.Rows.{cleared, breaks, flagsAt, firstWork, laterWork, lastWork}
 
-module _ (h : Head) (t lits : List ℕ) (s : State) (out : List ℕ) (r : Answer) (new : List ℕ) where
-  module _ (d : ℕ) (row : List ℕ) where
-    pub first-so : (totals : Totals) (g : ℕ) (p : Plan) (job : Job) (kept : List ℕ) (n : ℕ) (set flags : List Bool) → totals ≡ totalsFirst h t row d (s .sums) → g ≡ theDetail h t d → p ≡ firstPlan h g → job ≡ jobOf s p true → kept ≡ paddedRow row → n ≡ details h t → set ≡ flagsSet n → flags ≡ cleared h t d set
-        → Returns (settled h t s (prepared h t lits kept row (record { state = s; totals = totals; job = job; phase = running; flags = flags; kept = kept })) out) r new → Returns (settled h t s (firstWork h t lits s d row) out) r new
+module _ (h : Head) (t lits : List ℕ) (s : State) (out : List ℕ) {r : Answer} {new : List ℕ} where
+  module _ (detail : ℕ) (row : List ℕ) where
+    pub first-so : {totals : Totals} {g n : ℕ} {p : Plan} {job : Job} {kept : List ℕ} {set flags : List Bool} → totals ≡ totalsFirst h t row detail (s .sums) → g ≡ theDetail h t detail → p ≡ firstPlan h g → job ≡ jobOf s p true → kept ≡ paddedRow row → n ≡ details h t → set ≡ flagsSet n → flags ≡ cleared h t detail set
+        → Returns (settled h t s (prepared h t lits kept row (record { state = s; totals = totals; job = job; phase = running; flags = flags; kept = kept })) out) r new → Returns (settled h t s (firstWork h t lits s detail row) out) r new
     unfolding firstWork
-    first-so totals g p job kept n set flags e1 e2 e3 j e4 e5 e6 e7 x = rw (e1, j, e3, e2, e4, e7, e6, e5) at x
+    first-so e1 e2 e3 j e4 e5 e6 e7 x = rw (e1, j, e3, e2, e4, e7, e6, e5) at x
 
-    pub later-so : (b : ℕ) (totals : Totals) (g : ℕ) (p : Plan) (set : List Bool) (job : Job) (flags : List Bool) (next : List ℕ) → b ≡ breakLevel h t (s .kept) row → totals ≡ totalsLater h t row d b (s .sums) → g ≡ theDetail h t d → p ≡ laterPlan h b g → set ≡ flagsAt h t b (s .flags) → job ≡ jobOf s p (getD set d false) → flags ≡ cleared h t d set → next ≡ cond (breaks h b) (paddedRow row) (s .kept)
-        → Returns (settled h t s (prepared h t lits (s .kept) row (record { state = s; totals = totals; job = job; phase = running; flags = flags; kept = next })) out) r new → Returns (settled h t s (laterWork h t lits s d row) out) r new
+    pub later-so : {b g : ℕ} {totals : Totals} {p : Plan} {job : Job} {set flags : List Bool} {next : List ℕ} → b ≡ breakLevel h t (s .kept) row → totals ≡ totalsLater h t row detail b (s .sums) → g ≡ theDetail h t detail → p ≡ laterPlan h b g → set ≡ flagsAt h t b (s .flags) → job ≡ jobOf s p (getD set detail false) → flags ≡ cleared h t detail set → next ≡ cond (breaks h b) (paddedRow row) (s .kept)
+        → Returns (settled h t s (prepared h t lits (s .kept) row (record { state = s; totals = totals; job = job; phase = running; flags = flags; kept = next })) out) r new → Returns (settled h t s (laterWork h t lits s detail row) out) r new
     unfolding laterWork
-    later-so b totals g p set job flags next e1 e2 e3 e4 e5 j e6 e7 x = rw (e2, j, e4, e3, e6, e5, e7, e1) at x
+    later-so e1 e2 e3 e4 e5 j e6 e7 x = rw (e2, j, e4, e3, e6, e5, e7, e1) at x
 
-  pub last-so : (totals : Totals) (p : Plan) (job : Job) → totals ≡ totalsLast h t (s .sums) → p ≡ lastPlan h → job ≡ jobOf s p false
+  pub last-so : {totals : Totals} {p : Plan} {job : Job} → totals ≡ totalsLast h t (s .sums) → p ≡ lastPlan h → job ≡ jobOf s p false
       → Returns (settled h t s (prepared h t lits (s .kept) (s .kept) (record { state = s; totals = totals; job = job; phase = idle; flags = s .flags; kept = s .kept })) out) r new → Returns (settled h t s (lastWork h t lits s) out) r new
   unfolding lastWork
-  last-so totals p job e1 e2 j x = rw (e1, j, e2) at x
+  last-so e1 e2 j x = rw (e1, j, e2) at x

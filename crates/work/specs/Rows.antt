@@ -19,22 +19,22 @@ use Rattle.work.specs.Work.{jobOf, Work, prepared}
 -- ---- flags
 -- "Printing a detail that has lines clears its flag."
 abbrev pub cleared : Head → List ℕ → ℕ → List Bool → List Bool
-cleared h t d flags = cond (eqb (lineCount h t (theDetail h t d)) 0) flags (set flags d false)
+cleared h t detail flags = cond (eqb (lineCount h t (theDetail h t detail)) 0) flags (set flags detail false)
 
 -- ---- the work of each call
 -- "First GENERATE: phase running, keep the record, set each detail's indicate flag; RH, PH, all CH senior to junior; then subtotal; then the detail."
 abbrev pub firstWith : Head → List ℕ → List ℕ → State → ℕ → List ℕ → Totals → Work
-firstWith h t lits s d row totals = prepared h t lits (paddedRow row) row (record {
+firstWith h t lits s detail row totals = prepared h t lits (paddedRow row) row (record {
   state = s;
   totals = totals;
-  job = jobOf s (firstPlan h (theDetail h t d)) true;
+  job = jobOf s (firstPlan h (theDetail h t detail)) true;
   phase = running;
-  flags = cleared h t d (flagsSet (details h t));
+  flags = cleared h t detail (flagsSet (details h t));
   kept = paddedRow row;
 })
 
 unfoldable pub firstWork : Head → List ℕ → List ℕ → State → ℕ → List ℕ → Work
-firstWork h t lits s d row = firstWith h t lits s d row (totalsFirst h t row d (s .sums))
+firstWork h t lits s detail row = firstWith h t lits s detail row (totalsFirst h t row detail (s .sums))
 
 -- "On a break at level b: CFs from junior up to b, then keep the record and set indicate flags, then CHs from b down; then subtotal and detail."
 -- Without a break b is the number of controls
@@ -45,23 +45,23 @@ abbrev pub flagsAt : Head → List ℕ → ℕ → List Bool → List Bool
 flagsAt h t b flags = cond (breaks h b) (flagsSet (details h t)) flags
 
 abbrev pub laterWith : Head → List ℕ → List ℕ → State → ℕ → List ℕ → ℕ → Totals → Work
-laterWith h t lits s d row b totals = prepared h t lits (s .kept) row (record {
+laterWith h t lits s detail row b totals = prepared h t lits (s .kept) row (record {
   state = s;
   totals = totals;
-  job = jobOf s (laterPlan h b (theDetail h t d)) (getD (flagsAt h t b (s .flags)) d false);
+  job = jobOf s (laterPlan h b (theDetail h t detail)) (getD (flagsAt h t b (s .flags)) detail false);
   phase = running;
-  flags = cleared h t d (flagsAt h t b (s .flags));
+  flags = cleared h t detail (flagsAt h t b (s .flags));
   kept = cond (breaks h b) (paddedRow row) (s .kept);
 })
 
 abbrev pub laterAt : Head → List ℕ → List ℕ → State → ℕ → List ℕ → ℕ → Work
-laterAt h t lits s d row b = laterWith h t lits s d row b (totalsLater h t row d b (s .sums))
+laterAt h t lits s detail row b = laterWith h t lits s detail row b (totalsLater h t row detail b (s .sums))
 
 unfoldable pub laterWork : Head → List ℕ → List ℕ → State → ℕ → List ℕ → Work
-laterWork h t lits s d row = laterAt h t lits s d row (breakLevel h t (s .kept) row)
+laterWork h t lits s detail row = laterAt h t lits s detail row (breakLevel h t (s .kept) row)
 
 abbrev pub rowWork : Head → List ℕ → List ℕ → State → ℕ → List ℕ → Work
-rowWork h t lits s d row = cond (eqb (s .phase) started) (firstWork h t lits s d row) (laterWork h t lits s d row)
+rowWork h t lits s detail row = cond (eqb (s .phase) started) (firstWork h t lits s detail row) (laterWork h t lits s detail row)
 
 -- "TERMINATE .. when running: break at level 0, all CFs, then PF, RF; idle after, the rest as these steps leave it."
 abbrev pub lastWith : Head → List ℕ → List ℕ → State → Totals → Work

@@ -7,7 +7,7 @@ ghost use Rattle.lookup.specs.Find.{theDetail};
 ghost use Rattle.layout.specs.Facts.{Called};
 ghost use Rattle.call_text.specs.Bytes.{reading};
 ghost use Rattle.call_text.specs.Facts.{Printable};
-ghost use Rattle.state.specs.State.{started, running, keptSize};
+ghost use Rattle.state.specs.State.{started, running, sumCount, flagCount, keptSize};
 ghost use Rattle.state.specs.Kept.{paddedRow};
 ghost use Rattle.refusals.specs.Facts.{RowIn};
 ghost use Rattle.answer.specs.Result.{Returns};
@@ -22,22 +22,22 @@ use sums::Totals;
 use tables::Head;
 use verdict::Verdict;
 
-// The flags after detail `d` was printed: cleared where it has lines.
+// The flags after a detail was printed: its own is cleared where it has lines.
 fn cleared(
     t: &[u16],
     h: Head,
-    d: usize,
+    detail: usize,
     group: usize,
     flags: [bool; state::FLAG_COUNT],
 ) -> [bool; state::FLAG_COUNT]
-    requires { ⌜ (d < 8) × ((group ≡ theDetail h (now t) d) × (group < 65536)) ⌝ }
-    ensures { λ r. ⌜ r ≡ clearedSpec h (now (t .entry)) d flags ⌝ }
+    requires { ⌜ (detail < flagCount) × ((group ≡ theDetail h (now t) detail) × (group < 65536)) ⌝ }
+    ensures { λ r. ⌜ r ≡ clearedSpec h (now (t .entry)) detail flags ⌝ }
 {
     if tables::group_num(t, h, group, 3) == 0 {
         return flags;
     }
     let mut next = flags;
-    next[d] = false;
+    next[detail] = false;
     next
 }
 
@@ -62,7 +62,7 @@ fn run<'a>(
     w: Prepared,
     out: &mut [u8],
 ) -> Answer
-    requires { ⌜ Called h (now t) (w .job .plan) (w .job .pos) × (Printable h (now t) (reading (now lits) (now kept) (now row) (w .totals .shown) (w .job .flag) (w .job .prefix)) × (length (w .totals .shown) ≡ 32)) ⌝ }
+    requires { ⌜ Called h (now t) (w .job .plan) (w .job .pos) × (Printable h (now t) (reading (now lits) (now kept) (now row) (w .totals .shown) (w .job .flag) (w .job .prefix)) × (length (w .totals .shown) ≡ sumCount)) ⌝ }
     ensures { λ r. ⌜ Returns (settled h (now (t .entry)) (w .state) (prepared h (now (t .entry)) (now (lits .entry)) (now (kept .entry)) (now (row .entry)) w) (now (out .entry))) r (now (out .exit)) ⌝ }
 {
     let s = w.state;
@@ -100,19 +100,25 @@ pub fn first_row(
     h: Head,
     lits: &[u8],
     s: State,
-    d: usize,
+    detail: usize,
     rec: &[u8],
     out: &mut [u8],
 ) -> Answer
-    requires { ⌜ Stands h (now t) (now lits) s × (RowIn h (now t) d (now rec) × (s .phase ≡ started)) ⌝ }
-    ensures { λ r. ⌜ Returns (settled h (now (t .entry)) s (firstWork h (now (t .entry)) (now (lits .entry)) s d (now (rec .entry))) (now (out .entry))) r (now (out .exit)) ⌝ }
+    requires { ⌜ Stands h (now t) (now lits) s × (RowIn h (now t) detail (now rec) × (s .phase ≡ started)) ⌝ }
+    ensures { λ r. ⌜ Returns (settled h (now (t .entry)) s (firstWork h (now (t .entry)) (now (lits .entry)) s detail (now (rec .entry))) (now (out .entry))) r (now (out .exit)) ⌝ }
 {
-    let group = lookup::find_detail(t, h, d);
+    let group = lookup::find_detail(t, h, detail);
     let old = s.sums;
-    let totals = amounts::totals_first(t, h, rec, d, old);
+    let totals = amounts::totals_first(t, h, rec, detail, old);
     let kept = state::padded(rec);
     let next = kept;
-    let flags = cleared(t, h, d, group, state::flags_set(lookup::details_of(t, h)));
+    let flags = cleared(
+        t,
+        h,
+        detail,
+        group,
+        state::flags_set(lookup::details_of(t, h)),
+    );
     let job = job_of(s, plan::first_plan(h, group), true);
     let w = Prepared {
         state: s,
@@ -159,29 +165,29 @@ pub fn later_row(
     h: Head,
     lits: &[u8],
     s: State,
-    d: usize,
+    detail: usize,
     rec: &[u8],
     out: &mut [u8],
 ) -> Answer
-    requires { ⌜ Stands h (now t) (now lits) s × (RowIn h (now t) d (now rec) × (s .phase ≡ running)) ⌝ }
-    ensures { λ r. ⌜ Returns (settled h (now (t .entry)) s (laterWork h (now (t .entry)) (now (lits .entry)) s d (now (rec .entry))) (now (out .entry))) r (now (out .exit)) ⌝ }
+    requires { ⌜ Stands h (now t) (now lits) s × (RowIn h (now t) detail (now rec) × (s .phase ≡ running)) ⌝ }
+    ensures { λ r. ⌜ Returns (settled h (now (t .entry)) s (laterWork h (now (t .entry)) (now (lits .entry)) s detail (now (rec .entry))) (now (out .entry))) r (now (out .exit)) ⌝ }
 {
-    let group = lookup::find_detail(t, h, d);
+    let group = lookup::find_detail(t, h, detail);
     let b = rows::break_level(t, h, &s.kept, rec);
     let old = s.sums;
-    let totals = amounts::totals_later(t, h, rec, d, b, old);
+    let totals = amounts::totals_later(t, h, rec, detail, b, old);
     let ok = totals.ok;
     if !ok {
         return answer::refusal(s, Verdict::Sum);
     }
     let before = s.flags;
     let set = flags_at(t, h, b, before);
-    let flag = set[d];
+    let flag = set[detail];
     let job = job_of(s, plan::later_plan(h, b, group), flag);
     let outcome = pages::call(t, h, lits, &s.kept, rec, &totals.shown, job, out);
     let sums = totals.sums;
     let kept = s.kept;
-    let flags = cleared(t, h, d, group, set);
+    let flags = cleared(t, h, detail, group, set);
     let next = kept_at(h, b, rec, kept);
     answer::conclude(s, State::RUNNING, sums, flags, next, outcome)
 }

@@ -5,12 +5,14 @@ use mathlib.Core.Path.{_≡_, refl, sym, ap, _∙_}
 use mathlib.Core.Bool.{Bool}
 use lib.IntN.{ℤ}
 use borrow.Author.Needs.{needs, length-unmapped}
+use Rattle.state.specs.State.{sumCount, flagCount, keptSize}
+use Rattle.refusals.specs.declared.Tried.{Tried}
 use Rattle.refusals.specs.declared.Tried.the-variants.{Passed}
 use Rattle.refusals.specs.Facts.{Begun}
 use Rattle.refusals.proofs.Stages.{running-else}
 use Rattle.answer.specs.Result.{accepted}
-use Rattle.calls.specs.Calls.{triedIn, tried}
 use Rattle.work.specs.Facts.{Stands}
+use Rattle.calls.specs.Calls.{tried}
 use Rattle.calls.proofs.Answers.{asked-row, asked-end, call-refused, call-begun, call-first, call-later, call-ended, call-last}
 use Rattle.calls.proofs.call_on.Statement.{statement}
 use Rattle.calls.proofs.call_on.Tie as tie
@@ -19,12 +21,13 @@ use Rattle.calls.proofs.call_on.Tie as tie
 abbrev start : tie.After-tried → tie.Start
 start c = c .before .before .before .before .before .before
 
-tests-are : (c : tie.After-tried) → c .tried .result ≡ tried (start c .args .h) (start c .args .t .now) (start c .args .s) (start c .args .asked) (start c .args .rec .now)
-tests-are c =
-    let a = start c .args in
-    c .tried .ensures ∙ ap (λ (k : Bool). triedIn (a .h) (a .t .now) k (a .s .phase) (a .asked) (a .rec .now)) (c .before .state-ok .ensures)
+abbrev found : tie.Start → Tried
+found c = tried (c .args .h) (c .args .t .now) (c .args .s) (c .args .asked) (c .args .rec .now)
 
-passed : (c : tie.After-enum-told) → tried (start (c .before .before) .args .h) (start (c .before .before) .args .t .now) (start (c .before .before) .args .s) (start (c .before .before) .args .asked) (start (c .before .before) .args .rec .now) ≡ Passed
+tests-are : (c : tie.After-tried) → c .tried .result ≡ found (start c)
+tests-are c = rw (c .before .state-ok .ensures) at (c .tried .ensures)
+
+passed : (c : tie.After-enum-told) → found (start (c .before .before)) ≡ Passed
 passed c = sym (tests-are (c .before .before)) ∙ c .enum-told .given .1
 
 stands : (c : tie.Start) → Begun (c .args .h) (c .args .t .now) (c .args .s) → Stands (c .args .h) (c .args .t .now) (c .args .lits .now) (c .args .s)
@@ -34,43 +37,52 @@ stands c b =
     record {
       accepted = c .pre;
       rules = b .rules;
-      sized = record { sumsLong = length-unmapped ℤ (s .sums) 32 (g .0 .1 .0 .1); flagsLong = length-unmapped Bool (s .flags) 8 (g .1 .0 .1 .0 .1); keptLong = length-unmapped ℕ (s .kept) 256 (g .1 .1 .0 .1 .0 .1) };
+      sized = record { sumsLong = length-unmapped ℤ (s .sums) sumCount (g .0 .1 .0 .1); flagsLong = length-unmapped Bool (s .flags) flagCount (g .1 .0 .1 .0 .1); keptLong = length-unmapped ℕ (s .kept) keptSize (g .1 .1 .0 .1 .0 .1) };
     }
 
 first-row-requires : tie.Need-first-row-requires
 first-row-requires c κs =
-    let e = c .before .before .before .before .before .before in
-    let b = asked-row _ _ _ _ _ _ (passed e) (c .before .before .before .before .asked .given .1) in
+    let k = c .before .before .before .before in
+    let e = k .before .before in
+    let b = asked-row _ _ _ _ _ (passed e) (k .asked .given .1) in
     (stands (start (e .before .before)) (b .0), (b .1, c .before .if1 .taken))
 
 later-row-requires : tie.Need-later-row-requires
 later-row-requires c κs =
-    let e = c .before .before .before .before .before .before in
-    let b = asked-row _ _ _ _ _ _ (passed e) (c .before .before .before .before .asked .given .1) in
+    let k = c .before .before .before .before in
+    let e = k .before .before in
+    let b = asked-row _ _ _ _ _ (passed e) (k .asked .given .1) in
     (stands (start (e .before .before)) (b .0), (b .1, running-else _ _ _ (b .0) (c .before .if1 .left)))
 
 last-groups-requires : tie.Need-last-groups-requires
 last-groups-requires c κs =
-    let e = c .before .before .before .before .before in
-    let b = asked-end _ _ _ _ _ (passed e) (c .before .before .before .enum-told3 .given .1) in
+    let k = c .before .before .before in
+    let e = k .before .before in
+    let b = asked-end _ _ _ _ _ (passed e) (k .enum-told3 .given .1) in
     (stands (start (e .before .before)) b, running-else _ _ _ b (c .before .if2 .left))
 
-returns-2 : tie.Need-returns-2
-returns-2 c =
-    call-begun _ _ _ _ _ _ _ _ _ (passed (c .before .before .before .before)) (c .before .before .enum-told2 .given .1) (c .accepted .ensures ∙ ap accepted (c .before .at-phase .ensures)) refl
-
 returns-3 : tie.Need-returns-3
-returns-3 c = call-first _ _ _ _ _ _ _ _ _ (passed (c .before .before .before .before .before .before .before .before .before)) _ (c .before .before .before .before .before .before .before .asked .given .1) (c .before .before .before .before .if1 .taken) (c .before .before .first-row .ensures)
+returns-3 c =
+    let i = c .before .before .before .before in
+    let k = i .before .before .before in
+    call-first _ _ _ _ _ _ _ (passed (k .before .before)) (k .asked .given .1) (i .if1 .taken) (c .before .before .first-row .ensures)
 
 returns-4 : tie.Need-returns-4
-returns-4 c = call-later _ _ _ _ _ _ _ _ _ (passed (c .before .before .before .before .before .before .before .before .before)) _ (c .before .before .before .before .before .before .before .asked .given .1) (c .before .before .before .before .if1 .left) (c .before .before .later-row .ensures)
+returns-4 c =
+    let i = c .before .before .before .before in
+    let k = i .before .before .before in
+    call-later _ _ _ _ _ _ _ (passed (k .before .before)) (k .asked .given .1) (i .if1 .left) (c .before .before .later-row .ensures)
 
 returns-5 : tie.Need-returns-5
 returns-5 c =
-    call-ended _ _ _ _ _ _ _ _ _ (passed (c .before .before .before .before .before .before)) (c .before .before .before .before .enum-told3 .given .1) (c .before .before .if2 .taken) (c .accepted2 .ensures ∙ ap accepted (c .before .fresh .ensures)) refl
+    let k = c .before .before .before .before in
+    call-ended _ _ _ _ _ _ _ (passed (k .before .before)) (k .enum-told3 .given .1) (c .before .before .if2 .taken) (c .accepted2 .ensures ∙ ap accepted (c .before .fresh .ensures)) refl
 
 returns-6 : tie.Need-returns-6
-returns-6 c = call-last _ _ _ _ _ _ _ _ _ (passed (c .before .before .before .before .before .before .before .before)) (c .before .before .before .before .before .before .enum-told3 .given .1) (c .before .before .before .before .if2 .left) (c .before .before .last-groups .ensures)
+returns-6 c =
+    let i = c .before .before .before .before in
+    let k = i .before .before in
+    call-last _ _ _ _ _ _ _ (passed (k .before .before)) (k .enum-told3 .given .1) (i .if2 .left) (c .before .before .last-groups .ensures)
 
 pub call-on-spec : {M : Type 1} → statement M
 call-on-spec =
@@ -91,8 +103,8 @@ call-on-spec =
     (λ c κs. search needs)
     (λ c κs. search needs)
     last-groups-requires
-    (λ c. call-refused _ _ _ _ _ _ _ _ _ _ (sym (tests-are (c .before .before .before .before)) ∙ c .before .before .tests .given .1) (c .refusal .ensures) refl)
-    returns-2
+    (λ c. call-refused _ _ _ _ _ _ _ (sym (tests-are (c .before .before .before .before)) ∙ c .before .before .tests .given .1) (c .refusal .ensures) refl)
+    (λ c. let k = c .before .before in call-begun _ _ _ _ _ _ _ (passed (k .before .before)) (k .enum-told2 .given .1) (c .accepted .ensures ∙ ap accepted (c .before .at-phase .ensures)) refl)
     (λ c. search needs)
     returns-3
     (λ c. search needs)

@@ -13,11 +13,11 @@ use Rattle.lookup.proofs.find_detail.Statement.{statement}
 use Rattle.lookup.proofs.find_detail.Tie as tie
 
 abbrev Inv-loop : tie.InvT-loop
-Inv-loop t h d n found₀ i₀ found i =
-    (i ≤ n) × ((i ≡ firstBelow i (isDetail h t d)) × ((found ≡ sumBelow i (detailBit h t)) × (found ≤ i)))
+Inv-loop t h detail n found₀ i₀ found i =
+    (i ≤ n) × ((i ≡ firstBelow i (isDetail h t detail)) × ((found ≡ sumBelow i (detailBit h t)) × (found ≤ i)))
 
 abbrev μ-loop : tie.MeasureT-loop
-μ-loop t h d n found₀ i₀ found i = n - i
+μ-loop t h detail n found₀ i₀ found i = n - i
 
 loop-holds : tie.Need-loop-holds Inv-loop μ-loop
 unfolding firstBelow sumBelow
@@ -28,10 +28,10 @@ loop-again c =
     let b = c .before .before .before .before in
     let a = b .before .before .before .args in
     let v = b .loop .inv in
-    let q : (eqb (c .before .before .group-num .result) 3 && eqb (b .loop .found) (a .d)) ≡ isDetail (a .h) (a .t .now) (a .d) (b .loop .i) =
+    let q : (eqb (c .before .before .group-num .result) 3 && eqb (b .loop .found) (a .detail)) ≡ isDetail (a .h) (a .t .now) (a .detail) (b .loop .i) =
     rw (c .before .before .group-num .ensures .is, b .loop .inv .1 .1 .0)
     in
-    (omega arith, (first-next (isDetail (a .h) (a .t .now) (a .d)) _ (v .1 .0) q (c .before .if1 .left), (sum-next _ _ (v .1 .1 .0) (rw (c .one-if .ensures .0, c .before .before .group-num .ensures .is)), omega arith)))
+    (omega arith, (first-next (isDetail (a .h) (a .t .now) (a .detail)) _ (v .1 .0) q (c .before .if1 .left), (sum-next _ _ (v .1 .1 .0) (rw (c .one-if .ensures .0, c .before .before .group-num .ensures .is)), omega arith)))
 
 returns : tie.Need-returns Inv-loop μ-loop
 unfolding theDetail
@@ -45,10 +45,10 @@ unfolding theDetail
 returns-2 c =
     let b = c .before .before .before in
     let a = b .before .before .before .args in
-    let q : (eqb (c .before .group-num .result) 3 && eqb (b .loop .found) (a .d)) ≡ isDetail (a .h) (a .t .now) (a .d) (b .loop .i) =
+    let q : (eqb (c .before .group-num .result) 3 && eqb (b .loop .found) (a .detail)) ≡ isDetail (a .h) (a .t .now) (a .detail) (b .loop .i) =
     rw (c .before .group-num .ensures .is, b .loop .inv .1 .1 .0)
     in
-    (first-found (isDetail (a .h) (a .t .now) (a .d)) (c .before .before .loop-test .taken) (b .before .wide .ensures .is) (b .loop .inv .1 .0) q (c .if1 .taken), omega arith)
+    (first-found (isDetail (a .h) (a .t .now) (a .detail)) (c .before .before .loop-test .taken) (b .before .wide .ensures .is) (b .loop .inv .1 .0) q (c .if1 .taken), omega arith)
 
 pub find-detail-spec : {M : Type 1} → statement M
 find-detail-spec =

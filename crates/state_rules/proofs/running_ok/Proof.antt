@@ -7,7 +7,10 @@ use Rattle.state_rules.proofs.running_ok.Tie as tie
 
 returns : tie.Need-returns
 unfolding runningOk
-returns c = rw (c .kept-ok .ensures, c .before .before .before .before .beyond-ok .ensures, c .before .before .before .before .before .before .before .before .saved-ok .ensures, c .before .before .before .before .before .before .before .before .before .line-ok .ensures, c .before .before .before .before .before .before .before .before .before .before .ranges-ok .ensures)
+returns c =
+    let b = c .before .before .before .before in
+    let l = b .before .before .before .before in
+    rw (c .kept-ok .ensures, b .beyond-ok .ensures, l .saved-ok .ensures, l .before .line-ok .ensures, l .before .before .ranges-ok .ensures)
 
 pub running-ok-spec : {M : Type 1} → statement M
 running-ok-spec = tie.close (tie.spec (λ c κs. search needs) (λ c κs. search needs) (λ c κs. search needs) (λ c κs. search needs) (λ c κs. search needs) returns)

@@ -9,7 +9,7 @@ use borrow.Author.Needs.{needs}
 use Rattle.work.proofs.cleared.Statement.{statement}
 use Rattle.work.proofs.cleared.Tie as tie
 
-lines-are : (c : tie.After-group-num) → c .group-num .result ≡ lineCount (c .before .before .args .h) (c .before .before .args .t .now) (theDetail (c .before .before .args .h) (c .before .before .args .t .now) (c .before .before .args .d))
+lines-are : (c : tie.After-group-num) → c .group-num .result ≡ lineCount (c .before .before .args .h) (c .before .before .args .t .now) (theDetail (c .before .before .args .h) (c .before .before .args .t .now) (c .before .before .args .detail))
 lines-are c = c .group-num .ensures .is ∙ ap (lineCount (c .before .before .args .h) (c .before .before .args .t .now)) (c .before .before .pre .1 .0)
 
 pub cleared-spec : {M : Type 1} → statement M

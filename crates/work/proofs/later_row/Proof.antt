@@ -1,54 +1,70 @@
 -- `work::later_row` meets its contract: refusal 7, then what the printing answers.
 -- Assumes nothing.
 use mathlib.Core.Path.{refl}
-use native.Mathlib.Omega.{arith}
 use borrow.Author.Needs.{needs}
 use borrow.Author.Tests.{not-true, not-false}
-use Rattle.work.proofs.Ready.{detail-few, later-comparable, later-adding, later-called, later-printable}
+use Rattle.work.proofs.Ready.{detail-few, row-short, clearable, later-comparable, later-adding, later-prints}
 use Rattle.work.proofs.Settled.{sums-refused, answered-so}
 use Rattle.work.proofs.Works.{later-so}
 use Rattle.work.proofs.later_row.Statement.{statement}
 use Rattle.work.proofs.later_row.Tie as tie
 
+-- from the printing back to the job, from there to the totals, from there to the level, the group and the start
+abbrev job : tie.After-call → tie.After-job-of
+job o = o .before .before .before .before .before .before .before .before
+
+abbrev totals : tie.After-job-of → tie.After-totals-later
+totals j = j .before .before .before .before .before
+
+abbrev level : tie.After-totals-later → tie.After-break-level
+level w = w .before .before
+
+abbrev found : tie.After-totals-later → tie.After-find-detail
+found w = w .before .before .before .before .before .before
+
+abbrev start : tie.After-totals-later → tie.Start
+start w = found w .before .before .before .before .before
+
 returns : tie.Need-returns
 returns c =
-    later-so _ _ _ _ _ _ _ _ _ _ _ _ _ _ _ _ _ (c .before .before .before .before .break-level .ensures .0) (c .before .before .totals-later .ensures) (c .before .before .before .before .before .before .before .before .find-detail .ensures .0) refl refl refl refl refl
-    (sums-refused _ _ _ _ _ _ (not-true _ (c .before .if1 .taken)) (c .refusal .ensures))
+    let w = c .before .before in
+    later-so _ _ _ _ _ _ _ (level w .break-level .ensures .0) (w .totals-later .ensures) (found w .find-detail .ensures .0) refl refl refl refl refl (sums-refused _ _ _ _ _ (not-true _ (c .before .if1 .taken)) (c .refusal .ensures))
 
 call-requires : tie.Need-call-requires
 call-requires c κs =
-    let p = c .before .before .before .before .before .before .before .before .before .before .before .before .before .before .before .before .before .before .before .before .before .before .before .pre in
-    rw (c .before .before .before .before .before .before .before .job-of .ensures, c .before .before .before .before .before .before .before .before .later-plan .ensures, c .before .before .before .before .before .before .before .before .before .before .before .before .totals-later .ensures)
-    (later-called _ _ _ (p .0 .accepted) _ (p .0) (p .1 .1) _ _ (p .1 .0) _ _ (c .before .before .before .before .before .before .before .before .before .before .before .before .before .before .break-level .ensures .1) (c .before .before .before .before .before .before .before .before .before .before .before .before .before .before .before .before .before .before .find-detail .ensures .1), later-printable _ _ _ (p .0 .accepted) _ (p .0) (p .1 .1) _ _ (p .1 .0) _ _)
+    let j = c .before .before .before .before .before .before .before in
+    let w = totals j in
+    rw (j .job-of .ensures, j .before .later-plan .ensures, w .totals-later .ensures) (later-prints (start w .pre) _ (level w .break-level .ensures .1) (found w .find-detail .ensures .1))
 
 cleared-requires : tie.Need-cleared-requires
 cleared-requires c κs =
-    let p = c .before .before .before .before .before .before .before .before .before .before .before .before .before .before .before .before .before .before .before .before .before .before .before .before .before .before .before .before .pre in
-    let f = c .before .before .before .before .before .before .before .before .before .before .before .before .before .before .before .before .before .before .before .before .before .before .before .find-detail .ensures in
-    (detail-few _ _ _ (p .0 .accepted) _ _ (p .1 .0), (f .0, omega (arith, f .1, p .0 .accepted .groups32)))
+    let w = totals (job (c .before .before .before .before)) in
+    clearable (start w .pre) (found w .find-detail .ensures)
 
 returns-2 : tie.Need-returns-2
 returns-2 c =
-    let o = c .before .before .before .before .before .before .before .before .before .before .before .before .before .before .before in
-    later-so _ _ _ _ _ _ _ _ _ _ _ _ _ _ _ _ _ (c .before .before .before .before .before .before .before .before .before .before .before .before .before .before .before .before .before .before .before .before .before .before .break-level .ensures .0) (c .before .before .before .before .before .before .before .before .before .before .before .before .before .before .before .before .before .before .before .before .totals-later .ensures) (c .before .before .before .before .before .before .before .before .before .before .before .before .before .before .before .before .before .before .before .before .before .before .before .before .before .before .find-detail .ensures .0) (o .before .later-plan .ensures) (o .before .before .flags-at .ensures) (o .job-of .ensures) (c .before .before .cleared .ensures) (c .before .kept-at .ensures)
-    (answered-so _ _ _ _ _ _ _ _ (not-false _ (o .before .before .before .before .if1 .left)) (c .conclude .ensures) (c .before .before .before .before .before .before .before .call .ensures))
+    let o = c .before .before .before .before .before .before .before in
+    let j = job o in
+    let w = totals j in
+    later-so _ _ _ _ _ _ _ (level w .break-level .ensures .0) (w .totals-later .ensures) (found w .find-detail .ensures .0) (j .before .later-plan .ensures) (j .before .before .flags-at .ensures) (j .job-of .ensures) (c .before .before .cleared .ensures) (c .before .kept-at .ensures)
+    (answered-so _ _ _ _ _ (not-false _ (j .before .before .before .before .if1 .left)) (c .conclude .ensures) (o .call .ensures))
 
 pub later-row-spec : {M : Type 1} → statement M
 later-row-spec =
     tie.close
     (tie.spec
     (λ c κs. search needs)
-    (λ c κs. let p = c .before .before .before .before .before .before .before .before .pre in later-comparable _ _ _ (p .0 .accepted) _ (p .0) (p .1 .1) _ _ (p .1 .0))
-    (λ c κs. let p = c .before .before .before .before .before .before .before .before .before .before .pre in (later-adding _ _ _ (p .0 .accepted) _ (p .0) (p .1 .1) _ _ (p .1 .0), c .before .break-level .ensures .1))
+    (λ c κs. later-comparable (c .before .before .before .before .before .before .before .before .pre))
+    (λ c κs. (later-adding (c .before .before .before .before .before .before .before .before .before .before .pre), c .before .break-level .ensures .1))
     (λ c κs. search needs)
     returns
     (λ c κs. search needs)
-    (λ c. let p = c .before .before .before .before .before .before .before .before .before .before .before .before .before .before .pre in detail-few _ _ _ (p .0 .accepted) _ _ (p .1 .0))
+    (λ c. detail-few (start (c .before .before .before) .pre))
     (λ c κs. search needs)
     (λ c κs. search needs)
     call-requires
     cleared-requires
-    (λ c κs. let p = c .before .before .before .before .before .before .before .before .before .before .before .before .before .before .before .before .before .before .before .before .before .before .before .before .before .before .before .before .before .pre in omega (arith, p .1 .0 .long, p .0 .accepted .record256))
+    (λ c κs. row-short (start (totals (job (c .before .before .before .before .before))) .pre))
     (λ c κs. search needs)
     (λ c. search needs)
     returns-2)
