@@ -10,7 +10,7 @@ pub flush-spec : {M : Type 1} → statement M
 flush-spec =
     tie.close
     (tie.spec
-    (λ c. sym (length-take-le (c .before .before .args .waiting) (c .before .before .args .out .now) (c .before .before .pre)))
+    (λ c. sym (length-take-le _ _ (c .before .before .pre)))
     (λ c κs. search needs)
     (λ c. search needs)
     (λ c κs. search needs)

@@ -1,4 +1,4 @@
--- `console::is_same` meets its contract.
+-- `console::is_same` meets its contract: no index is past the end.
 -- Assumes nothing.
 use Prim.Native.Nat.{_-_, _≤_}
 use native.Mathlib.Omega.{arith}
@@ -7,8 +7,7 @@ use Rattle.console.proofs.is_same.Statement.{statement}
 use Rattle.console.proofs.is_same.Tie as tie
 
 abbrev Inv-loop : tie.InvT-loop
-Inv-loop a b i₀ i =
-    i ≤ length a
+Inv-loop a b i₀ i = i ≤ length a
 
 abbrev μ-loop : tie.MeasureT-loop
 μ-loop a b i₀ i = length a - i

@@ -12,7 +12,7 @@ read-part-spec =
     tie.close
     (tie.spec
     (λ c. search needs)
-    (λ c. sym (length-take-le (c .before .before .args .part) (c .before .before .args .buffer .now) (c .before .before .pre)))
+    (λ c. sym (length-take-le _ _ (c .before .before .pre)))
     (λ c κs. search needs)
     (λ c κs. search needs)
     (λ c. search needs)
