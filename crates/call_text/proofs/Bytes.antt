@@ -72,10 +72,10 @@ module _ (h : Head) (t : List ℕ) where
   in-changes fromKept zero page = none
   in-changes fromKept (suc n) page = in-append (in-append (in-due _ _ _ _) (in-due _ _ _ _)) (in-changes fromKept n (page + 1))
 
-  in-turns : (ds : List Turn) (s : Pos) → GroupsIn h (placeAll h t ds s .dues)
+  in-turns : (rest : List Turn) (s : Pos) → GroupsIn h (placeAll h t rest s .dues)
   unfolding placeAll placeGroup
   in-turns [] s = none
-  in-turns (d ∷ ds) s = in-append (in-append (in-changes _ _ _) (in-due _ _ _ _)) (in-turns ds _)
+  in-turns (turn ∷ rest) s = in-append (in-append (in-changes _ _ _) (in-due _ _ _ _)) (in-turns rest _)
 
   in-opened : (p : Plan) (s : Pos) → GroupsIn h (opened h t p s .dues)
   unfolding opening

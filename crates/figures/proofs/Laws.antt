@@ -1,7 +1,7 @@
 -- Laws of printed numbers and text. Assumes nothing.
 use mathlib.Core.Path.{_≡_, refl, sym, ap, _∙_}
 use Prim.Native.Nat.{ℕ, zero, suc, _+_, _-_, _/_, _%_, _^_, _≤_, _<_}
-use mathlib.Core.Bool.{Bool, true, false, cond}
+use mathlib.Core.Bool.{Bool}
 use mathlib.Core.List.{List, [], _∷_, _++_, append-nil}
 use native.Mathlib.Nat.{div-div-eq-div-mul, div-lt-iff-lt-mul, pow-suc}
 use native.Mathlib.Numerals.{add-one}
@@ -12,6 +12,7 @@ use lib.IntN.{ℤ, pos, negsuc}
 use lib.ListN.{length, take, replicate, length-append, length-take, length-replicate}
 use lib.Seq.{take-all, take-length}
 use lib.Signed.{ltZ}
+use Rattle.counts.proofs.Laws.{by-test, by-cond}
 use Rattle.figures.specs.Number.{digits, placesIn, places, fraction, fractionLength, plain, sign, signedText, alignRight, isNegative, numberField, alignLeft}
 
 -- digits
@@ -43,14 +44,10 @@ placesIn-suc : (f n : ℕ) → 10 ≤ n → placesIn (suc f) n ≡ placesIn f (n
 unfolding placesIn
 placesIn-suc f n h = rw (le-ltb n 10 h) refl
 
-cond-le : (b : Bool) (m f : ℕ) → m ≤ f + 1 → cond b 1 (m + 1) ≤ suc f + 1
-cond-le true m f h = omega arith
-cond-le false m f h = omega arith
-
 placesIn-le : (f n : ℕ) → placesIn f n ≤ f + 1
 unfolding placesIn
 placesIn-le zero n = omega arith
-placesIn-le (suc f) n = cond-le (ltb n 10) _ f (placesIn-le f (n / 10))
+placesIn-le (suc f) n = let l = placesIn-le f (n / 10) in by-cond (λ (k : ℕ). k ≤ suc f + 1) (ltb n 10) (λ e. omega arith) (λ e. omega arith)
 
 pub places-le : (n : ℕ) → places n ≤ 20
 unfolding places
@@ -85,13 +82,9 @@ module _ (n decimals : ℕ) where
   unfolding fraction
   fraction-some h = rw (ne-eqb decimals 0 (λ e. omega arith)) refl
 
-  length-cond : (b : Bool) → length (cond b [] (46 ∷ digits decimals n)) ≡ cond b 0 (1 + decimals)
-  length-cond true = refl
-  length-cond false = omega (arith, length-digits decimals n)
-
   pub length-fraction : length (fraction decimals n) ≡ fractionLength decimals
   unfolding fraction
-  length-fraction = length-cond (eqb decimals 0)
+  length-fraction = by-test (eqb decimals 0) (λ e. rw e refl) (λ e. rw e (omega (arith, length-digits decimals n)))
 
   module _ (negative : Bool) (w : ℕ) (e : w ≡ n / 10 ^ decimals) where
     -- in its parts; w is the whole part
@@ -103,10 +96,7 @@ module _ (n decimals : ℕ) where
     length-signedText = ap length signedText-parts ∙ simp (length-append, length-digits, length-fraction)
 
 pub fractionLength-le : (decimals : ℕ) → fractionLength decimals ≤ 1 + decimals
-fractionLength-le decimals = by (eqb decimals 0) where
-  by : (b : Bool) → cond b 0 (1 + decimals) ≤ 1 + decimals
-  by true = omega arith
-  by false = omega arith
+fractionLength-le decimals = by-cond (λ (k : ℕ). k ≤ 1 + decimals) (eqb decimals 0) (λ e. omega arith) (λ e. omega arith)
 
 pub isNegative-ltZ : (z : ℤ) → ltZ z (pos 0) ≡ isNegative z
 isNegative-ltZ (pos n) = le-ltb n 0 (omega arith)
@@ -123,13 +113,12 @@ module _ (w : ℕ) (t : List ℕ) where
   unfolding alignRight
   alignRight-fits h = rw (le-leb (length t) w h) refl
 
-  length-right : (b : Bool) → leb (length t) w ≡ b → length (cond b (replicate (w - length t) 32 ++ t) (replicate w 42)) ≡ w
-  length-right true e = simp (length-append, length-replicate) (omega (arith, leb-true (length t) w e))
-  length-right false e = length-replicate w 42
-
   pub length-alignRight : length (alignRight w t) ≡ w
   unfolding alignRight
-  length-alignRight = length-right (leb (length t) w) refl
+  length-alignRight =
+      by-cond (λ (l : List ℕ). length l ≡ w) (leb (length t) w)
+      (λ e. simp (length-append, length-replicate) (omega (arith, leb-true (length t) w e)))
+      (λ e. length-replicate w 42)
 
   pub alignLeft-short : length t ≤ w → alignLeft w t ≡ take (length t) t ++ replicate (w - length t) 32
   unfolding alignLeft

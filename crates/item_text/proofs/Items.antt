@@ -1,13 +1,12 @@
--- Laws of the text of an item: it is as long as the item is wide, and what it is by kind and flag. Assumes nothing.
-use mathlib.Core.Path.{_≡_, refl}
+-- Laws of the text of an item: it is as long as the item is wide. Assumes nothing.
+use mathlib.Core.Path.{_≡_}
 use Prim.Native.Nat.{ℕ, _+_, _≤_}
-use mathlib.Core.Bool.{Bool, true, false, cond}
 use mathlib.Core.List.{List}
 use native.Mathlib.Omega.{arith}
 use borrow.Author.Tests.{eqb-true}
 use lib.Dec.{eqb}
 use lib.IntN.{pos}
-use lib.ListN.{length, getD, replicate, length-take, length-drop, length-replicate}
+use lib.ListN.{length, getD, length-take, length-drop, length-replicate}
 use Rattle.counts.proofs.Laws.{by-cond}
 use Rattle.number.specs.Value.{numberOf}
 use Rattle.figures.proofs.Laws.{length-numberField, length-alignLeft}
@@ -15,7 +14,7 @@ use Rattle.tables.specs.declared.Item.{Item}
 use Rattle.tables.specs.Table.{fieldKind}
 use Rattle.rows.specs.Fields.{fieldPart}
 use Rattle.item_text.specs.declared.View.{View}
-use Rattle.item_text.specs.Items.{Inputs, applied, literalText, fieldText, counterText, sumText, sourceText, hidden, itemText}
+use Rattle.item_text.specs.Items.{Inputs, applied, fieldText, sourceText, hidden, itemText}
 
 module _ (t : List ℕ) (inp : Inputs) (v : View) (x : Item) where
   length-fieldText : (rec : List ℕ) → length (fieldText t rec x) ≡ x .width
@@ -39,37 +38,3 @@ module _ (t : List ℕ) (inp : Inputs) (v : View) (x : Item) where
   unfolding itemText
   length-itemText s =
       by-cond (λ (l : List ℕ). length l ≡ x .width) (hidden v x) (λ e. length-replicate (x .width) 32) (λ e. length-sourceText s)
-
-  -- what an item shows, by its kind
-  pub source-literal : x .kind ≡ 0 → sourceText t inp v x ≡ literalText (inp .lits) x
-  unfolding sourceText
-  source-literal k = rw k refl
-
-  pub source-field : x .kind ≡ 1 → sourceText t inp v x ≡ fieldText t (applied inp v) x
-  unfolding sourceText
-  source-field k = rw k refl
-
-  pub source-page : x .kind ≡ 2 → sourceText t inp v x ≡ counterText (v .page) x
-  unfolding sourceText
-  source-page k = rw k refl
-
-  pub source-line : x .kind ≡ 3 → sourceText t inp v x ≡ counterText (v .line) x
-  unfolding sourceText
-  source-line k = rw k refl
-
-  pub source-sum : x .kind ≡ 4 → sourceText t inp v x ≡ sumText (inp .sums) x
-  unfolding sourceText
-  source-sum k = rw k refl
-
-  -- an item flagged indicate, and any other
-  pub item-hidden : hidden v x ≡ true → itemText t inp v x ≡ replicate (x .width) 32
-  unfolding itemText
-  item-hidden k = rw k refl
-
-  pub item-shown : hidden v x ≡ false → itemText t inp v x ≡ sourceText t inp v x
-  unfolding itemText
-  item-shown k = rw k refl
-
--- a sum is the kind that is none of the others
-pub last-kind : {k : ℕ} → k ≤ 4 → (k ≡ 0 → ⊥) → (k ≡ 1 → ⊥) → (k ≡ 2 → ⊥) → (k ≡ 3 → ⊥) → k ≡ 4
-last-kind l n0 n1 n2 n3 = omega arith

@@ -9,7 +9,7 @@ use native.Mathlib.Omega.{arith}
 use lib.ListN.{getD}
 use Rattle.tables.specs.declared.Head.{Head}
 use Rattle.tables.specs.declared.Item.{Item}
-use Rattle.tables.specs.Table.{firstItem, itemColumn, itemWidth, itemKind, itemIndex, itemDecimals, itemFlag, itemOf}
+use Rattle.tables.specs.Table.{firstItem, itemColumn, itemWidth, itemOf}
 use Rattle.items.specs.Sources.{shownOk}
 use Rattle.items.specs.Items.{freeColumn, placeOk, itemOk}
 
@@ -17,20 +17,9 @@ module _ (h : Head) (t : List ℕ) (i : ℕ) {x : Item} (e : x ≡ itemOf h t i)
   pub column-of : {n : ℕ} → n ≡ x .column → n ≡ itemColumn h t i
   column-of q = let z : h .istart + 6 * i ≡ h .istart + 6 * i + 0 = omega arith in q ∙ ap (λ (r : Item). r .column) e ∙ ap (λ (k : ℕ). getD t k 0) z
 
-  pub width-of : {n : ℕ} → n ≡ x .width → n ≡ itemWidth h t i
-  width-of q = q ∙ ap (λ (r : Item). r .width) e
-
-  pub kind-of : {n : ℕ} → n ≡ x .kind → n ≡ itemKind h t i
-  kind-of q = q ∙ ap (λ (r : Item). r .kind) e
-
-  pub index-of : {n : ℕ} → n ≡ x .index → n ≡ itemIndex h t i
-  index-of q = q ∙ ap (λ (r : Item). r .index) e
-
-  pub decimals-of : {n : ℕ} → n ≡ x .decimals → n ≡ itemDecimals h t i
-  decimals-of q = q ∙ ap (λ (r : Item). r .decimals) e
-
-  pub flag-of : {n : ℕ} → n ≡ x .flag → n ≡ itemFlag h t i
-  flag-of q = q ∙ ap (λ (r : Item). r .flag) e
+  -- any other number of it
+  pub read-of : (f : Item → ℕ) {n : ℕ} → n ≡ f x → n ≡ f (itemOf h t i)
+  read-of f q = q ∙ ap f e
 
 module _ (h : Head) (t : List ℕ) (l m : ℕ) {first column width : ℕ} (f : first ≡ firstItem h t l) (c : column ≡ itemColumn h t (first + m)) (w : width ≡ itemWidth h t (first + m)) where
   pub item-is : (g : ℕ) {free : ℕ} {placed shown : Bool} → free ≡ freeColumn h t l m → placed ≡ placeOk h free column width → shown ≡ shownOk h t g (first + m) → (placed && shown) ≡ itemOk h t g l m

@@ -1,13 +1,13 @@
 -- A layout group by group: one turn and the others, one page change and the others, the body groups between the opening and the closing.
---     place-append, place-step, place-end     the layout of a list of turns
+--     place-step, place-end                   the layout of a list of turns
 --     change-step, change-end                 page changes
 --     group-changes, group-page, group-near   how many a turn makes, and its page
 --     place-page                              the page that a list of turns reaches at most
 --     layout-dues, layout-to                  a call's layout in its three parts
 -- Assumes nothing.
-use mathlib.Core.Path.{_≡_, refl, sym, ap}
+use mathlib.Core.Path.{_≡_, refl}
 use mathlib.Core.Bool.{Bool}
-use mathlib.Core.List.{List, [], _∷_, _++_, append-assoc}
+use mathlib.Core.List.{List, [], _∷_, _++_}
 use Prim.Native.Nat.{ℕ, zero, suc, _+_, _*_, _-_, _≤_, _<_}
 use native.Mathlib.Numerals.{sub-one}
 use native.Mathlib.Omega.{arith}
@@ -22,24 +22,17 @@ use Rattle.plan.specs.declared.Plan.{Plan}
 use Rattle.plan.specs.Plan.{turns}
 use Rattle.layout.specs.declared.Pos.{Pos}
 use Rattle.layout.specs.declared.Placed.{Placed}
-use Rattle.layout.specs.Layout.{Due, pageChange, pageChanges, placedLines, placed, placeGroup, andThen, placeAll, opened, closed, layout}
+use Rattle.layout.specs.Layout.{pageChange, pageChanges, placedLines, placed, placeGroup, andThen, placeAll, opened, closed, layout}
 
 module _ (h : Head) (t : List ℕ) where
   -- turns one after the other
-  pub place-append : (ds es : List Turn) (s : Pos) → placeAll h t (ds ++ es) s ≡ andThen (placeAll h t ds s) (placeAll h t es (placeAll h t ds s .to))
+  pub place-step : (all rest : List Turn) (turn : Turn) (s : Pos) → all ≡ turn ∷ rest → placeAll h t all s ≡ andThen (placeGroup h t turn s) (placeAll h t rest (placeGroup h t turn s .to))
   unfolding placeAll
-  place-append [] es s = refl
-  place-append (turn ∷ ds) es s =
-      rw (place-append ds es (placeGroup h t turn s .to))
-      (ap (λ (us : List Due). record { dues = us; to = placeAll h t es (placeAll h t ds (placeGroup h t turn s .to) .to) .to }) (sym (append-assoc (placeGroup h t turn s .dues) _ _)))
+  place-step all rest turn s e = rw e refl
 
-  pub place-step : (ds es : List Turn) (turn : Turn) (s : Pos) → ds ≡ turn ∷ es → placeAll h t ds s ≡ andThen (placeGroup h t turn s) (placeAll h t es (placeGroup h t turn s .to))
+  pub place-end : (rest : List Turn) (s : Pos) → rest ≡ [] → placeAll h t rest s ≡ record { dues = []; to = s }
   unfolding placeAll
-  place-step ds es turn s e = rw e refl
-
-  pub place-end : (ds : List Turn) (s : Pos) → ds ≡ [] → placeAll h t ds s ≡ record { dues = []; to = s }
-  unfolding placeAll
-  place-end ds s e = rw e refl
+  place-end rest s e = rw e refl
 
   -- page changes one after the other
   pub change-step : (fromKept : Bool) (n page : ℕ) → 0 < n → pageChanges h t fromKept n page ≡ pageChange h t fromKept page ++ pageChanges h t fromKept (n - 1) (page + 1)
@@ -68,10 +61,10 @@ module _ (h : Head) (t : List ℕ) where
   unfolding placeGroup
   group-near turn s = omega (arith, group-page turn s, group-changes turn s)
 
-  pub place-page : (ds : List Turn) (s : Pos) → placeAll h t ds s .to .page ≤ s .page + 2 * length ds
+  pub place-page : (rest : List Turn) (s : Pos) → placeAll h t rest s .to .page ≤ s .page + 2 * length rest
   unfolding placeAll
   place-page [] s = omega arith
-  place-page (turn ∷ ds) s = let n = group-near turn s in let e = place-page ds (placeGroup h t turn s .to) in omega arith
+  place-page (turn ∷ rest) s = let n = group-near turn s in let e = place-page rest (placeGroup h t turn s .to) in omega arith
 
   module _ (p : Plan) (s : Pos) where
     -- the place after the opening, and after the body groups

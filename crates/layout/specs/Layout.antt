@@ -82,7 +82,7 @@ andThen a b = record { dues = a .dues ++ b .dues; to = b .to }
 
 unfoldable pub placeAll : Head → List ℕ → List Turn → Pos → Laid
 placeAll h t [] s = record { dues = []; to = s }
-placeAll h t (turn ∷ ds) s = andThen (placeGroup h t turn s) (placeAll h t ds (placeGroup h t turn s .to))
+placeAll h t (turn ∷ rest) s = andThen (placeGroup h t turn s) (placeAll h t rest (placeGroup h t turn s .to))
 
 -- a heading or footing at a line: "After any group prints, line is its last line"
 abbrev pub lineAfter : Head → List ℕ → ℕ → ℕ → ℕ → ℕ

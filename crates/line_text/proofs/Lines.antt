@@ -8,7 +8,7 @@ use lib.ListN.{length}
 use Rattle.counts.proofs.Laws.{fold-keeps}
 use Rattle.file.specs.Limits.{lineMax}
 use Rattle.splice.proofs.Laws.{length-splice}
-use Rattle.printed.specs.Printed.{Short, recordSize, blanks}
+use Rattle.printed.specs.Printed.{Short, recordSize}
 use Rattle.printed.proofs.Laws.{length-printed, length-blanks}
 use Rattle.tables.specs.declared.Head.{Head}
 use Rattle.tables.specs.declared.Item.{Item}

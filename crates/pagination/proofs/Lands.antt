@@ -177,9 +177,9 @@ module _ (h : Head) (t : List ℕ) (r : ℕ) (fits : PageFits h t) where
   pub group-placed : (turn : Turn) (s : Pos) → TurnOk turn → Running (frameOf h t) (s .spot) → LaidRunning h t r s (placeGroup h t turn s)
   group-placed turn s k run = by-test (present h t (turn .group)) (λ p. made-placed turn s p (k p) run) (λ p. absent-placed turn s p run)
 
-  pub all-placed : (ds : List Turn) (s : Pos) → All TurnOk ds → Running (frameOf h t) (s .spot) → LaidRunning h t r s (placeAll h t ds s)
+  pub all-placed : (rest : List Turn) (s : Pos) → All TurnOk rest → Running (frameOf h t) (s .spot) → LaidRunning h t r s (placeAll h t rest s)
   unfolding placeAll
   all-placed [] s k run = placed-none s run
-  all-placed (turn ∷ ds) s k run =
+  all-placed (turn ∷ rest) s k run =
       let v = group-placed turn s (k .0) run in
-      placed-after s (placeGroup h t turn s) (placeAll h t ds (placeGroup h t turn s .to)) v (all-placed ds (placeGroup h t turn s .to) (k .1) (v .running))
+      placed-after s (placeGroup h t turn s) (placeAll h t rest (placeGroup h t turn s .to)) v (all-placed rest (placeGroup h t turn s .to) (k .1) (v .running))

@@ -1,6 +1,5 @@
 -- How `fits` goes on from what the fit test says, and how many page changes it counts. Assumes nothing.
 use mathlib.Core.Path.{_≡_, refl}
-use mathlib.Core.Bool.{Bool, true, false, cond}
 use Prim.Native.Nat.{ℕ, zero, suc, _-_, _≤_}
 use native.Mathlib.Numerals.{sub-one}
 use native.Mathlib.Omega.{arith}
@@ -12,16 +11,6 @@ use Rattle.place.specs.declared.Step.the-variants.{Print, GoOn}
 use Rattle.place.specs.declared.Landing.{Landing}
 use Rattle.place.specs.Place.{newPage, printAt}
 use Rattle.place.specs.Fit.{fitTest, afterChange, settle, changed, landsWithin}
-
--- to show X, show it where a test passes and where it fails
-pub by-test : {X : Type 0} (t : Bool) → (t ≡ true → X) → (t ≡ false → X) → X
-by-test true h k = h refl
-by-test false h k = k refl
-
--- to show P of a `cond`, show it of both sides, each with what the test says
-pub by-cond : {A : Type 0} (P : A → Type 0) (t : Bool) {x y : A} → (t ≡ true → P x) → (t ≡ false → P y) → P (cond t x y)
-by-cond P true h k = h refl
-by-cond P false h k = k refl
 
 -- the fit test of a body group answers r
 abbrev pub Tests : Frame → Body → Spot → Step → Type 0

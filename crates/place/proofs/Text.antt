@@ -2,6 +2,7 @@
 use mathlib.Core.Path.{_≡_}
 use Prim.Native.Nat.{ℕ, _+_}
 use lib.Dec.{ltb, leb, eqb}
+use Rattle.counts.proofs.Laws.{by-test}
 use Rattle.place.specs.declared.Frame.{Frame}
 use Rattle.place.specs.declared.Body.{Body}
 use Rattle.place.specs.declared.First.{First}
@@ -9,7 +10,6 @@ use Rattle.place.specs.declared.First.the-variants.{Absolute, NextPage, 
 use Rattle.place.specs.declared.Spot.{Spot}
 use Rattle.place.specs.Place.{lands, landing}
 use Rattle.place.specs.Fit.{fitTest, afterChange, landsWithin}
-use Rattle.place.proofs.Laws.{by-test}
 
 settled : (f : Frame) (g : First) (span low : ℕ) (s : Spot) → landsWithin 2 f (record { first = g; span = span; low = low }) s ≡ lands f g span low s
 unfolding landsWithin fitTest afterChange lands

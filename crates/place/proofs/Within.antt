@@ -6,6 +6,7 @@ use Prim.Native.Nat.{ℕ, zero, suc, _+_, _≤_, _<_}
 use native.Mathlib.Omega.{arith}
 use lib.Dec.{ltb, leb, eqb}
 use borrow.Author.Tests.{ltb-true, leb-true, eqb-true, eqb-false}
+use Rattle.counts.proofs.Laws.{by-test, by-cond}
 use Rattle.place.specs.declared.Frame.{Frame}
 use Rattle.place.specs.declared.Body.{Body}
 use Rattle.place.specs.declared.First.{First}
@@ -16,7 +17,7 @@ use Rattle.place.specs.declared.Spot.{Spot}
 use Rattle.place.specs.declared.Landing.{Landing}
 use Rattle.place.specs.Place.{changePage, lands, landing, followed}
 use Rattle.place.specs.Rules.{FitsPart, Described, NextIn, Running, Inside}
-use Rattle.place.proofs.Laws.{by-test, by-cond, changes-le}
+use Rattle.place.proofs.Laws.{changes-le}
 use Rattle.place.proofs.Text.{two-settle}
 
 not-true : false ≡ true → ⊥

@@ -2,7 +2,7 @@
 -- Assumes nothing.
 use Prim.Native.Nat.{_+_, _≤_, _-_}
 use mathlib.Core.Path.{_≡_, refl, sym, _∙_}
-use mathlib.Core.Bool.{Bool, true, false, _&&_}
+use mathlib.Core.Bool.{_&&_, and-true}
 use native.Mathlib.Omega.{arith}
 use borrow.Author.Needs.{needs}
 use borrow.Author.Tests.{not-true, not-false}
@@ -27,10 +27,6 @@ returns c =
     let few = rw (n .ensures .is) at (not-true (leb 1 (n .result) && leb (n .result) 8) (c .if1 .taken)) in
     rw few refl
 
-and-true : (b : Bool) → b ≡ (b && true)
-and-true true = refl
-and-true false = refl
-
 returns-2 : tie.Need-returns-2 Inv-loop μ-loop
 unfolding addendsOk allBelow ownAddendOk newAddend
 returns-2 c =
@@ -38,7 +34,7 @@ returns-2 c =
     let n = c .before .before .before .counter-num2 .ensures .is in
     let a = c .before .before .before .before .before .before .args in
     let z : firstAddend (a .h) (a .t .now) (a .k) + 0 ≡ firstAddend (a .h) (a .t .now) (a .k) = omega arith in
-    rw (sym n ∙ c .before .if2 .taken, z, ← f) (c .addend-ok .ensures ∙ and-true _)
+    rw (sym n ∙ c .before .if2 .taken, z, ← f) (c .addend-ok .ensures ∙ sym (and-true _))
 
 loop-again : tie.Need-loop-again Inv-loop μ-loop
 unfolding ownAddendOk

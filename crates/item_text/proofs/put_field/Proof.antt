@@ -16,9 +16,6 @@ use Rattle.item_text.specs.Items.{fieldText}
 use Rattle.item_text.proofs.put_field.Statement.{statement}
 use Rattle.item_text.proofs.put_field.Tie as tie
 
-number-requires : tie.Need-number-requires
-number-requires c κs = rw (c .before .before .applies .ensures) (number-field (c .before .before .before .before .before .before .before .before .before .before .pre .1 (omega arith)) (omega arith))
-
 returns : tie.Need-returns
 unfolding fieldText
 returns c =
@@ -48,7 +45,7 @@ put-field-spec =
     (λ c. search needs)
     (λ c κs. c .before .before .before .before .before .before .before .pre .1 (omega arith) .part)
     (λ c κs. search needs)
-    number-requires
+    (λ c κs. rw (c .before .before .applies .ensures) (number-field (c .before .before .before .before .before .before .before .before .before .before .pre .1 (omega arith)) (omega arith)))
     (λ c. search needs)
     (λ c κs. search needs)
     (λ c κs. search needs)

@@ -2,19 +2,16 @@
 use mathlib.Core.Path.{_≡_}
 use native.Mathlib.Omega.{arith}
 use borrow.Author.Needs.{needs}
-use Rattle.item_text.specs.Items.{Inputs, inputs}
-use Rattle.item_text.proofs.Items.{source-literal, source-field, source-page, source-line, source-sum, last-kind}
+use Rattle.item_text.specs.Items.{fieldText, sourceText}
 use Rattle.item_text.proofs.put_source.Statement.{statement}
 use Rattle.item_text.proofs.put_source.Tie as tie
 
-abbrev read : tie.Start → Inputs
-read s = let a = s .args in inputs (a .lits .now) (a .kept .now) (a .row .now) (a .sums .now)
-
 -- none of the kinds 0 to 3
 sum-kind : (c : tie.At-match-rest) → c .before .before .before .before .before .before .args .x .kind ≡ 4
-sum-kind c = let r = c .match .rest in last-kind (c .before .before .before .before .before .before .pre .kind) (r .0 .0 .0 .1) (r .0 .0 .1) (r .0 .1) (r .1)
+sum-kind c = let r = c .match .rest in omega (arith, c .before .before .before .before .before .before .pre .kind, r .0 .0 .0 .1, r .0 .0 .1, r .0 .1, r .1)
 
 pub put-source-spec : {M : Type 1} → statement M
+unfolding sourceText fieldText
 put-source-spec =
     tie.close
     (tie.spec
@@ -25,12 +22,12 @@ put-source-spec =
     (λ c κs. let p = c .before .before .before .before .before .before .before .pre in (p .fits, p .number))
     (λ c κs. let p = c .before .before .before .before .before .before .before .pre in (p .fits, p .sum (sum-kind (c .before))))
     (λ c. search needs)
-    (λ c. let s = c .before .before .before .before .before .before .before .before .before .before in let a = s .args in rw (source-literal (a .t .now) (read s) (a .v) (a .x) (c .before .before .before .before .match .keys1)) (c .before .before .put-literal .ensures))
+    (λ c. rw (c .before .before .before .before .match .keys1) (c .before .before .put-literal .ensures))
     (λ c. search needs)
-    (λ c. let s = c .before .before .before .before .before .before .before .before .before .before in let a = s .args in rw (source-field (a .t .now) (read s) (a .v) (a .x) (c .before .before .before .before .match .keys2)) (c .before .before .put-field .ensures))
+    (λ c. rw (c .before .before .before .before .match .keys2) (c .before .before .put-field .ensures))
     (λ c. search needs)
-    (λ c. let s = c .before .before .before .before .before .before .before .before .before .before .before in let a = s .args in rw (source-page (a .t .now) (read s) (a .v) (a .x) (c .before .before .before .before .before .match .keys3)) (c .before .before .put-counter .ensures))
+    (λ c. rw (c .before .before .before .before .before .match .keys3) (c .before .before .put-counter .ensures))
     (λ c. search needs)
-    (λ c. let s = c .before .before .before .before .before .before .before .before .before .before in let a = s .args in rw (source-line (a .t .now) (read s) (a .v) (a .x) (c .before .before .before .before .match .keys4)) (c .before .before .put-counter2 .ensures))
+    (λ c. rw (c .before .before .before .before .match .keys4) (c .before .before .put-counter2 .ensures))
     (λ c. search needs)
-    (λ c. let s = c .before .before .before .before .before .before .before .before .before .before in let a = s .args in rw (source-sum (a .t .now) (read s) (a .v) (a .x) (sum-kind (c .before .before .before .before))) (c .before .before .put-sum .ensures)))
+    (λ c. rw (sum-kind (c .before .before .before .before)) (c .before .before .put-sum .ensures)))

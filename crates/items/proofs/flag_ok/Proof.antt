@@ -4,7 +4,7 @@ use mathlib.Core.Path.{refl, sym, _∙_}
 use borrow.Author.Needs.{needs}
 use borrow.Author.Tests.{ne-eqb}
 use Rattle.items.specs.Sources.{flagOk}
-use Rattle.items.proofs.Laws.{flag-of}
+use Rattle.items.proofs.Laws.{read-of}
 use Rattle.items.proofs.flag_ok.Statement.{statement}
 use Rattle.items.proofs.flag_ok.Tie as tie
 
@@ -12,14 +12,14 @@ returns : tie.Need-returns
 unfolding flagOk
 returns c =
     let a = c .before .before .before .args in
-    let f = flag-of (a .h) (a .t .now) (a .i) (c .before .before .before .pre .1) (c .before .wide .ensures .is) in
+    let f = read-of (a .h) (a .t .now) (a .i) (c .before .before .before .pre .1) (λ r. r .flag) (c .before .wide .ensures .is) in
     rw (sym f ∙ c .if1 .taken) refl
 
 returns-2 : tie.Need-returns-2
 unfolding flagOk
 returns-2 c =
     let a = c .before .before .before .before .args in
-    let f = flag-of (a .h) (a .t .now) (a .i) (c .before .before .before .before .pre .1) (c .before .before .wide .ensures .is) in
+    let f = read-of (a .h) (a .t .now) (a .i) (c .before .before .before .before .pre .1) (λ r. r .flag) (c .before .before .wide .ensures .is) in
     rw (ne-eqb _ 0 (λ q. c .before .if1 .left (f ∙ q)), c .group-num .ensures .is, f)
 
 pub flag-ok-spec : {M : Type 1} → statement M

@@ -7,7 +7,7 @@ use borrow.Author.Needs.{needs}
 use Rattle.counts.specs.Below.{allBelow}
 use Rattle.counts.proofs.Laws.{all-start, all-step, all-end}
 use Rattle.items.specs.Items.{freeColumn, itemOk, lineItemsOk}
-use Rattle.items.proofs.Laws.{column-of, width-of, item-is, free-next}
+use Rattle.items.proofs.Laws.{column-of, read-of, item-is, free-next}
 use Rattle.items.proofs.line_items_ok.Statement.{statement}
 use Rattle.items.proofs.line_items_ok.Tie as tie
 
@@ -25,7 +25,7 @@ loop-again c =
     let f = b .before .before .line-num .ensures .is in
     let e = c .before .before .before .before .item-of .ensures in
     let column = column-of (a .h) (a .t .now) _ e (c .before .before .before .wide .ensures .is) in
-    let width = width-of (a .h) (a .t .now) _ e (c .before .before .wide2 .ensures .is) in
+    let width = read-of (a .h) (a .t .now) _ e (λ r. r .width) (c .before .before .wide2 .ensures .is) in
     let this = item-is (a .h) (a .t .now) (a .l) (b .loop .m) f column width (a .g) (b .loop .inv .1) (c .before .place-ok .ensures) (c .shown-ok .ensures) in
     (all-step _ (b .loop .inv .0) (omega arith) this, free-next (a .h) (a .t .now) (a .l) (b .loop .m) f column width)
 

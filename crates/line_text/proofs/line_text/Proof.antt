@@ -26,10 +26,6 @@ abbrev μ-loop : tie.MeasureT-loop
 step : tie.Start Inv-loop μ-loop → ℕ → List ℕ → List ℕ
 step s = let a = s .args in withOwn (a .h) (a .t .now) (inputs (a .lits .now) (a .kept .now) (a .row .now) (a .sums .now)) (a .v) (a .l)
 
-loop-holds : tie.Need-loop-holds Inv-loop μ-loop
-unfolding foldBelow blanks
-loop-holds c = (refl, omega arith, refl)
-
 put-item-requires : tie.Need-put-item-requires Inv-loop μ-loop
 put-item-requires c κs =
     let s = c .before .before .before .before .before .before .before .before .before .before in
@@ -46,9 +42,10 @@ loop-again c =
 
 returns : tie.Need-returns Inv-loop μ-loop
 unfolding lineText step
-returns c = let l = c .before in l .loop .inv .0 ∙ ap (λ (k : ℕ). foldBelow k (step (c .before .before .before .before .before .before .before .before)) blanks) (omega arith)
+returns c = c .before .loop .inv .0 ∙ ap (λ (k : ℕ). foldBelow k (step (c .before .before .before .before .before .before .before .before)) blanks) (omega arith)
 
 pub line-text-spec : {M : Type 1} → statement M
+unfolding foldBelow blanks
 line-text-spec =
     tie.close
     (tie.spec
@@ -56,7 +53,7 @@ line-text-spec =
     μ-loop
     (λ c κs. search needs)
     (λ c κs. search needs)
-    loop-holds
+    (λ c. (refl, omega arith, refl))
     (λ c. omega arith)
     (λ c κs. omega arith)
     (λ c. search needs)
