@@ -6,6 +6,7 @@ ghost use Rattle.unpacked.specs.Table.{literals};
 ghost use Rattle.description.specs.Facts.{LiteralsIn, TableRoom};
 use file::Rule;
 use tables::Head;
+use unpacked::Opened;
 
 // The answer of CHECK: the number is that of the first broken rule.
 pub enum Checked {
@@ -87,10 +88,9 @@ fn check_in(d: &[u8], h: Head, t: &mut [u16]) -> Checked
 pub fn check(d: &[u8]) -> Checked
     ensures { λ r. ⌜ Answers (now (d .entry)) r ⌝ }
 {
-    let Rule::Passed = file::rule_d1(d) else {
+    let Opened::With(h) = unpacked::opening_of(d) else {
         return Checked::Broken(1);
     };
-    let h = unpacked::head_of(d);
     let n = unpacked::numbers_of(h);
     let mut t = [unpacked::UNSET; unpacked::NUMBERS_MAX];
     check_in(d, h, &mut t[..n])

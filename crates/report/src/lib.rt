@@ -7,9 +7,9 @@ ghost use Rattle.report.specs.Calls.{call as callSpec, initiate as initi
 use answer::Answer;
 use calls::Asked;
 use description::Checked;
-use file::Rule;
 use state::State;
 use tables::Head;
+use unpacked::Opened;
 use verdict::Verdict;
 
 // One report: its state, which every call takes by value and gives back in its answer.
@@ -46,10 +46,9 @@ const SMALL: usize = 512;
 pub fn call(s: State, d: &[u8], asked: Asked, rec: &[u8], out: &mut [u8]) -> Answer
     ensures { λ r. ⌜ Returns (callSpec (now (d .entry)) s asked (now (rec .entry)) (now (out .entry))) r (now (out .exit)) ⌝ }
 {
-    let Rule::Passed = file::rule_d1(d) else {
+    let Opened::With(h) = unpacked::opening_of(d) else {
         return answer::refusal(s, Verdict::Description(1));
     };
-    let h = unpacked::head_of(d);
     let n = unpacked::numbers_of(h);
     if n <= SMALL {
         let mut t = [unpacked::UNSET; SMALL];

@@ -2,10 +2,10 @@
 ghost use Prim.Native.Nat.{_+_, _≤_};
 ghost use mathlib.Core.Path.{_≡_};
 ghost use lib.ListN.{length};
-use file::Rule;
 use report::Report;
 use state::State;
 use stream::Run;
+use unpacked::Opened;
 use verdict::Verdict;
 
 // A description that keeps D1 has at most 12,928 bytes, so a longer file breaks it whatever the rest.
@@ -293,10 +293,9 @@ fn finish(d: &[u8], s: Sheet, out: &mut [u8])
 fn record_length(d: &[u8]) -> usize
     ensures { λ r. ⌜ 1 ≤ r ⌝ }
 {
-    let Rule::Passed = file::rule_d1(d) else {
+    let Opened::With(h) = unpacked::opening_of(d) else {
         return 1;
     };
-    let h = unpacked::head_of(d);
     let n = tables::wide(h.reclen);
     if n == 0 {
         return 1;

@@ -1,10 +1,14 @@
 -- The head of the tables: where each section starts in the table, the entry counts, and the page. The version is not in it.
 use Prim.Native.Nat.{ℕ, _+_, _*_}
+use mathlib.Core.Bool.{cond}
 use mathlib.Core.List.{List}
 use Rattle.file.specs.Trailer.{count, setting}
+use Rattle.file.specs.Sections.{ruleD1}
 use Rattle.tables.specs.declared.Head.{Head}
 use Rattle.unpacked.specs.declared.Counts.{Counts}
 use Rattle.unpacked.specs.declared.Settings.{Settings}
+use Rattle.unpacked.specs.declared.Opened.{Opened}
+use Rattle.unpacked.specs.declared.Opened.the-variants.{With, Broken}
 use Rattle.tables.specs.Section.{fieldSection, controlSection, groupSection, lineSection, itemSection, counterSection, addendSection, literalSection, words}
 
 -- the "entry count of each section", as the trailer has it
@@ -66,6 +70,10 @@ headWith n p =
 
 abbrev pub headOf : List ℕ → Head
 headOf d = headWith (countsOf d) (settingsOf d)
+
+-- what opening a description finds: the head, where D1 is passed
+abbrev pub opening : List ℕ → Opened
+opening d = cond (ruleD1 d) (With (headOf d)) Broken
 
 -- how many numbers the table under a head has: the addends end it
 abbrev pub numbersOf : Head → ℕ

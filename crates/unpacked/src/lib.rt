@@ -7,8 +7,9 @@ ghost use Rattle.file.specs.Version.{sections, settings};
 ghost use Rattle.file.specs.Trailer.{version, HasTrailer, count, setting};
 ghost use Rattle.file.specs.Sections.{ruleD1};
 ghost use Rattle.tables.specs.Section.{tableSections, words};
-ghost use Rattle.unpacked.specs.Head.{countsOf, settingsOf, headWith, headOf, numbersOf};
+ghost use Rattle.unpacked.specs.Head.{countsOf, settingsOf, headWith, headOf, opening, numbersOf};
 ghost use Rattle.unpacked.specs.Table.{numbersMax, numbers, table};
+use file::Rule;
 use tables::Head;
 
 // The most numbers of a table.
@@ -43,6 +44,12 @@ pub struct Settings {
     pub ft: u16,
     pub width: u16,
     pub reclen: u16,
+}
+
+// What opening a description finds: the head that its calls go under, or that D1 is broken.
+pub enum Opened {
+    Under(Head),
+    Broken,
 }
 
 // Where the section behind section `k` starts in the table, where `k` starts at `at` and has `n` entries.
@@ -134,11 +141,21 @@ fn head_with(n: Counts, p: Settings) -> Head
 }
 
 // The head of a description that passes D1.
-pub fn head_of(d: &[u8]) -> Head
+fn head_of(d: &[u8]) -> Head
     requires { ⌜ ruleD1 (now d) ≡ true ⌝ }
     ensures { λ r. ⌜ r ≡ headOf (now (d .entry)) ⌝ }
 {
     head_with(counts_of(d), settings_of(d))
+}
+
+// A description opened: its head, where it passes D1. One function for all who ask, so that none of them has it set into it.
+pub fn opening_of(d: &[u8]) -> Opened
+    ensures { λ r. ⌜ r ≡ opening (now (d .entry)) ⌝ }
+{
+    let Rule::Passed = file::rule_d1(d) else {
+        return Opened::Broken;
+    };
+    Opened::With(head_of(d))
 }
 
 // How many numbers the table under a head has: the addends end it.

@@ -2,15 +2,15 @@
 -- Assumes nothing.
 use mathlib.Core.Path.{sym}
 use borrow.Author.Needs.{needs}
-use Rattle.file.proofs.Laws.{passed, failed}
 use Rattle.unpacked.specs.Table.{numbersMax}
+use Rattle.unpacked.proofs.Opening.{under, broken}
 use Rattle.description.proofs.Answer.{answers, d1-broken, front, numbers-few, front-room}
 use Rattle.description.proofs.check.Statement.{statement}
 use Rattle.description.proofs.check.Tie as tie
 
 -- the numbers fit an array of the most
 fits : tie.Need-array-borrow-prefix-t
-fits c = numbers-few _ (passed (c .before .before .before .before .rule-d1 .ensures) (c .before .before .enum-told .given .1)) (c .before .head-of .ensures) (c .numbers-of .ensures)
+fits c = let p = under _ (c .before .before .before .before .opening-of .ensures) (c .before .before .h .given .1) in numbers-few _ (p .0) (p .1) (c .numbers-of .ensures)
 
 pub check-spec : {M : Type 1} → statement M
 check-spec =
@@ -19,10 +19,9 @@ check-spec =
     (λ c κs. search needs)
     (λ c. search needs)
     (λ c. search needs)
-    (λ c. answers _ _ (sym (d1-broken _ (failed (c .before .before .rule-d1 .ensures) (c .enum-told2 .given .1)))))
-    (λ c κs. passed (c .before .before .rule-d1 .ensures) (c .enum-told .given .1))
+    (λ c. answers _ _ (sym (d1-broken _ (broken _ (c .before .before .opening-of .ensures) (c .enum-told .given .1)))))
     (λ c κs. search needs)
     fits
     (λ c. sym (front _ numbersMax 1 (fits (c .before))))
-    (λ c κs. front-room _ (passed (c .before .before .before .before .before .rule-d1 .ensures) (c .before .before .before .enum-told .given .1)) (c .before .before .head-of .ensures) (c .before .numbers-of .ensures) numbersMax 1 (fits (c .before)))
+    (λ c κs. let p = under _ (c .before .before .before .before .before .opening-of .ensures) (c .before .before .before .h .given .1) in front-room _ (p .0) (p .1) (c .before .numbers-of .ensures) numbersMax 1 (fits (c .before)))
     (λ c. answers _ _ (c .before .check-in .ensures)))

@@ -2,8 +2,8 @@
 -- Assumes nothing.
 use mathlib.Core.Path.{sym}
 use borrow.Author.Needs.{needs}
-use Rattle.file.proofs.Laws.{passed, failed}
 use Rattle.unpacked.specs.Table.{numbersMax}
+use Rattle.unpacked.proofs.Opening.{under, broken}
 use Rattle.description.proofs.Answer.{d1-broken, front, numbers-few, front-room}
 use Rattle.report.proofs.Checked.{call-broken}
 use Rattle.report.proofs.call.Statement.{statement}
@@ -11,7 +11,7 @@ use Rattle.report.proofs.call.Tie as tie
 
 -- the numbers fit an array of the most
 few : tie.Need-array-borrow-prefix-t-2
-few c = numbers-few _ (passed (c .before .before .before .before .before .rule-d1 .ensures) (c .before .before .before .enum-told .given .1)) (c .before .before .head-of .ensures) (c .before .numbers-of .ensures)
+few c = let p = under _ (c .before .before .before .before .before .opening-of .ensures) (c .before .before .before .h .given .1) in numbers-few _ (p .0) (p .1) (c .before .numbers-of .ensures)
 
 pub call-spec : {M : Type 1} → statement M
 call-spec =
@@ -21,16 +21,15 @@ call-spec =
     (λ c. search needs)
     (λ c. search needs)
     (λ c κs. search needs)
-    (λ c. call-broken _ _ (d1-broken _ (failed (c .before .before .before .rule-d1 .ensures) (c .before .enum-told2 .given .1))) _ _ (c .refusal .ensures) _ _ _)
-    (λ c κs. passed (c .before .before .rule-d1 .ensures) (c .enum-told .given .1))
+    (λ c. call-broken _ _ (d1-broken _ (broken _ (c .before .before .before .opening-of .ensures) (c .before .enum-told .given .1))) _ _ (c .refusal .ensures) _ _ _)
     (λ c κs. search needs)
     (λ c. search needs)
     (λ c. sym (front _ 512 1 (c .before .if1 .taken)))
-    (λ c κs. front-room _ (passed (c .before .before .before .before .before .before .before .rule-d1 .ensures) (c .before .before .before .before .before .enum-told .given .1)) (c .before .before .before .before .head-of .ensures) (c .before .before .before .numbers-of .ensures) 512 1 (c .before .before .if1 .taken))
+    (λ c κs. let p = under _ (c .before .before .before .before .before .before .before .opening-of .ensures) (c .before .before .before .before .before .h .given .1) in front-room _ (p .0) (p .1) (c .before .before .before .numbers-of .ensures) 512 1 (c .before .before .if1 .taken))
     (λ c. search needs)
     (λ c. c .before .before .before .call-in .ensures)
     few
     (λ c. sym (front _ numbersMax 1 (few (c .before))))
-    (λ c κs. front-room _ (passed (c .before .before .before .before .before .before .before .rule-d1 .ensures) (c .before .before .before .before .before .enum-told .given .1)) (c .before .before .before .before .head-of .ensures) (c .before .before .before .numbers-of .ensures) numbersMax 1 (few (c .before .before)))
+    (λ c κs. let p = under _ (c .before .before .before .before .before .before .before .opening-of .ensures) (c .before .before .before .before .before .h .given .1) in front-room _ (p .0) (p .1) (c .before .before .before .numbers-of .ensures) numbersMax 1 (few (c .before .before)))
     (λ c. search needs)
     (λ c. c .before .before .before .call-in2 .ensures))
