@@ -48,7 +48,7 @@ pub struct Settings {
 
 // What opening a description finds: the head that its calls go under, or that D1 is broken.
 pub enum Opened {
-    Under(Head),
+    With(Head),
     Broken,
 }
 
