@@ -28,7 +28,7 @@ use Rattle.verdict.specs.declared.Verdict.{Verdict}
 use Rattle.verdict.specs.Verdict.{number}
 use Rattle.answer.specs.Result.{Result, refuse}
 use Rattle.work.specs.Work.{Work, moved, settled}
-use Rattle.every_call.proofs.Settles.{printed, each-settled}
+use Rattle.every_call.proofs.Settles.{linesPrinted, each-settled}
 use Rattle.every_call.proofs.Shows.{Shows}
 use Rattle.book.specs.Book.{Call, Book, dueFor, turned, enter}
 use Rattle.book.specs.Sheet.{sheetOf}
@@ -79,7 +79,7 @@ module _ (d : List ℕ) where
         (busy : s .phase ≡ idle → ⊥) (low : 1 ≤ b .pos .page)
         (q : ℕ) (walk : (u v : Due) → u .page ≡ b .pos .page → v .page ≡ b .pos .page → Walk h t u v (w .laid .dues) (w .laid .to .page) q) (over : (w .phase ≡ idle) ⊎ (q ≡ w .laid .to .page))
         (next : w .laid .to .page ≤ lastPage → Inv (moved w (w .laid .to)) (turned h t b c (w .laid))) where
-      done-ok : w .laid .to .page ≤ lastPage → Ok Inv s b c reading (printed h t s w out)
+      done-ok : w .laid .to .page ≤ lastPage → Ok Inv s b c reading (linesPrinted h t s w out)
       unfolding enter
       done-ok l = record {
         fine = inl refl;

@@ -31,7 +31,7 @@ use Rattle.state.specs.State.{freshAt}
 use Rattle.answer.specs.Result.{Result, refuse}
 use Rattle.work.specs.Work.{Work, moved, settled}
 use Rattle.work.specs.Rows.{rowWork, lastWork}
-use Rattle.every_call.proofs.Settles.{byteTotal, printed as bytesPrinted, each-settled}
+use Rattle.every_call.proofs.Settles.{byteTotal, linesPrinted, each-settled}
 use Rattle.every_call.proofs.Shows.{Shows, first-shows, later-shows, last-shows}
 use Rattle.book.specs.Book.{Call, generate, terminate}
 use Rattle.book.specs.Demand.{Use, answer, reads, taken, run, printed}
@@ -66,7 +66,7 @@ module _ (d : List ℕ) (s : State) (out : List ℕ) where
     long : length bytes ≡ byteTotal h t s w out
     long = length-dueBytes h t (w .inputs) (shows .items) short (shows .groups)
 
-    done : byteTotal h t s w out ≤ length out → Whole c (bytesPrinted h t s w out)
+    done : byteTotal h t s w out ≤ length out → Whole c (linesPrinted h t s w out)
     done l = inl (record {
       accepted = refl;
       state = sym n;

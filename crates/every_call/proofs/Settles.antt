@@ -25,13 +25,13 @@ module _ (h : Head) (t : List ℕ) (s : State) (w : Work) (out : List ℕ) where
   byteTotal = byteCount h t (w .inputs .prefix) (w .laid .dues)
 
   -- what is returned and left where nothing refuses
-  abbrev pub printed : Result
-  printed = record {
+  abbrev pub linesPrinted : Result
+  linesPrinted = record {
     answer = record { verdict = Accepted; count = byteTotal; state = moved w (w .laid .to) };
     out = splice out 0 (dueBytes h t (w .inputs) (w .laid .dues));
   }
 
-  pub each-settled : (P : Result → Type 0) → ((v : Verdict) → 7 ≤ number v → number v ≤ 9 → P (refuse s out v)) → (w .ok ≡ true → w .laid .to .page ≤ lastPage → byteTotal ≤ length out → P printed)
+  pub each-settled : (P : Result → Type 0) → ((v : Verdict) → 7 ≤ number v → number v ≤ 9 → P (refuse s out v)) → (w .ok ≡ true → w .laid .to .page ≤ lastPage → byteTotal ≤ length out → P linesPrinted)
       → P (settled h t s w out)
   unfolding settled outcome written
   each-settled P refused done =

@@ -20,7 +20,7 @@ use Rattle.item_text.specs.Items.{Inputs, itemText, withItem}
 use Rattle.item_text.specs.Facts.{ItemReady}
 use Rattle.item_text.proofs.Items.{length-itemText}
 use Rattle.line_text.specs.Lines.{withOwn, lineText, lineBytes}
-use Rattle.line_text.specs.Facts.{ItemIn, Sized, LineIn, Readable}
+use Rattle.line_text.specs.Facts.{ItemIn, LineSize, LineIn, Readable}
 
 -- the record that applies is well formed
 applied-formed : {h : Head} {t : List ℕ} {inp : Inputs} → Readable h t inp → (fromKept : Bool) → Formed h t (cond fromKept (inp .kept) (inp .row))
@@ -28,7 +28,7 @@ applied-formed r true = r .kept
 applied-formed r false = r .row
 
 -- an item of an accepted description is ready
-pub item-ready : (h : Head) (t : List ℕ) (inp : Inputs) (v : View) (x : Item) (text : List ℕ) → Sized h (inp .lits) → ItemIn h x → Readable h t inp
+pub item-ready : (h : Head) (t : List ℕ) (inp : Inputs) (v : View) (x : Item) (text : List ℕ) → LineSize h (inp .lits) → ItemIn h x → Readable h t inp
     → v .line < 68719476736 → h .width ≤ length text → ItemReady t inp v x text
 item-ready h t inp v x text s i r n w = record {
   fits = record { column = i .column; inside = omega (arith, i .inside); decimals = i .decimals };
@@ -40,7 +40,7 @@ item-ready h t inp v x text s i r n w = record {
 }
 
 module _ (h : Head) (t : List ℕ) (inp : Inputs) (v : View) where
-  length-withItem : (x : Item) (text : List ℕ) → Sized h (inp .lits) → ItemIn h x → h .width ≤ length text
+  length-withItem : (x : Item) (text : List ℕ) → LineSize h (inp .lits) → ItemIn h x → h .width ≤ length text
       → length (withItem t inp v x text) ≡ length text
   length-withItem x text s i r =
       let w = length-itemText t inp v x (λ k. omega (arith, i .literal k, s .literals)) in

@@ -25,7 +25,7 @@ use Rattle.little_endian.specs.Numbers.{bytes, number}
 use Rattle.little_endian.specs.Sign.{bits, ofBits}
 use Rattle.little_endian.proofs.Laws.{length-entries, number-behind, number-entry, number-small, bytes-number, entries-number}
 use Rattle.little_endian.proofs.Sign.{ofBits-bits, bits-ofBits}
-use Rattle.state_bytes.specs.Bytes.{pageAt, lineAt, savedAt, phaseAt, seenAt, flagsAt, sumsAt, keptAt, stateSize, flagBytes, sumBytes, placeBytes, markBytes, arrayBytes, bytesOf, isPlain, flagsPlain, flagAt, flagsOf, sumsOf, stateOf}
+use Rattle.state_bytes.specs.Bytes.{pageAt, lineAt, savedAt, phaseAt, seenAt, flagsStart, sumsStart, keptStart, stateSize, flagBytes, sumBytes, placeBytes, markBytes, arrayBytes, bytesOf, isPlain, flagsPlain, flagAt, flagsOf, sumsOf, stateOf}
 use Rattle.state_bytes.specs.Facts.{InBytes}
 
 -- ---- a flag
@@ -53,30 +53,30 @@ module _ (s : State) (h : InBytes s) where
   unfolding bytesOf bytes number
   head-there = (omega arith, omega arith, omega arith, refl, refl)
 
-  flag-there : (k : ℕ) → k < flagCount → getD b (flagsAt + k) 0 ≡ bit (getD (s .flags) k false)
+  flag-there : (k : ℕ) → k < flagCount → getD b (flagsStart + k) 0 ≡ bit (getD (s .flags) k false)
   unfolding bytesOf bytes number
   flag-there k l =
-      number-behind head arrays 0 (flagsAt + k) (1 * k) (omega arith)
+      number-behind head arrays 0 (flagsStart + k) (1 * k) (omega arith)
       ∙ number-entry 0 bit false (s .flags) (sumBytes (s .sums) ++ s .kept) k (omega (arith, h .flagsLong))
 
-  sum-there : (k : ℕ) → k < sumCount → number 8 b (sumsAt + 8 * k) ≡ bits (getD (s .sums) k (pos 0))
+  sum-there : (k : ℕ) → k < sumCount → number 8 b (sumsStart + 8 * k) ≡ bits (getD (s .sums) k (pos 0))
   unfolding bytesOf bytes
   sum-there k l =
-      number-behind head arrays 7 (sumsAt + 8 * k) (flagCount + 8 * k) (omega arith)
+      number-behind head arrays 7 (sumsStart + 8 * k) (flagCount + 8 * k) (omega arith)
       ∙ number-behind (flagBytes (s .flags)) (sumBytes (s .sums) ++ s .kept) 7 (flagCount + 8 * k) (8 * k) (omega (arith, length-entries 0 bit (s .flags), h .flagsLong))
       ∙ number-entry 7 bits (pos 0) (s .sums) (s .kept) k (omega (arith, h .sumsLong))
 
-  kept-there : drop keptAt b ≡ s .kept
+  kept-there : drop keptStart b ≡ s .kept
   unfolding bytesOf bytes
   kept-there =
       rw (← append-assoc (flagBytes (s .flags)) (sumBytes (s .sums)) (s .kept))
-      (drop-at (head ++ (flagBytes (s .flags) ++ sumBytes (s .sums))) (s .kept) keptAt
+      (drop-at (head ++ (flagBytes (s .flags) ++ sumBytes (s .sums))) (s .kept) keptStart
       (omega (arith, length-append (flagBytes (s .flags)) (sumBytes (s .sums)), length-entries 0 bit (s .flags), length-entries 7 bits (s .sums), h .flagsLong, h .sumsLong)))
 
   plain-at : (k : ℕ) → k < flagCount + 1 → isPlain b k ≡ true
   plain-at zero l = rw (head-there .4) (bit-again (s .seen) .1)
   plain-at (suc k) l =
-      let e : seenAt + suc k ≡ flagsAt + k = omega arith in
+      let e : seenAt + suc k ≡ flagsStart + k = omega arith in
       rw (e, flag-there k (omega arith)) (bit-again (getD (s .flags) k false) .1)
 
   plain : flagsPlain b ≡ true
@@ -109,16 +109,16 @@ module _ (b : List ℕ) (small : (i : ℕ) → getD b i 0 < 256) (long : length 
   unfolding flagsPlain
   flag-back k l = bit-back (getD b (seenAt + k) 0) (leb-true _ _ (all-at (isPlain b) k (flagCount + 1) l plain))
 
-  flags-back : flagBytes (flagsOf b) ++ drop sumsAt b ≡ drop flagsAt b
+  flags-back : flagBytes (flagsOf b) ++ drop sumsStart b ≡ drop flagsStart b
   unfolding number
   flags-back =
-      entries-number 0 bit b small flagCount flagsAt (λ i. flagAt b (flagsAt + i)) (omega arith)
-      (λ k l. let e : seenAt + (k + 1) ≡ flagsAt + k = omega arith in let z : flagsAt + 1 * k ≡ flagsAt + k = omega arith in rw z (rw e at (flag-back (k + 1) (omega arith))))
+      entries-number 0 bit b small flagCount flagsStart (λ i. flagAt b (flagsStart + i)) (omega arith)
+      (λ k l. let e : seenAt + (k + 1) ≡ flagsStart + k = omega arith in let z : flagsStart + 1 * k ≡ flagsStart + k = omega arith in rw z (rw e at (flag-back (k + 1) (omega arith))))
 
-  sums-back : sumBytes (sumsOf b) ++ drop keptAt b ≡ drop sumsAt b
+  sums-back : sumBytes (sumsOf b) ++ drop keptStart b ≡ drop sumsStart b
   sums-back =
-      entries-number 7 bits b small sumCount sumsAt (λ i. ofBits (number 8 b (sumsAt + 8 * i))) (omega arith)
-      (λ k l. bits-ofBits (number 8 b (sumsAt + 8 * k)) (number-small b small 7 (sumsAt + 8 * k)))
+      entries-number 7 bits b small sumCount sumsStart (λ i. ofBits (number 8 b (sumsStart + 8 * i))) (omega arith)
+      (λ k l. bits-ofBits (number 8 b (sumsStart + 8 * k)) (number-small b small 7 (sumsStart + 8 * k)))
 
   pub bytes-again : bytesOf (stateOf b) ≡ b
   unfolding bytesOf stateOf bytes number

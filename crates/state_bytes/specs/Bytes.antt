@@ -27,17 +27,17 @@ phaseAt = 8
 abbrev pub seenAt : ℕ
 seenAt = 9
 
-abbrev pub flagsAt : ℕ
-flagsAt = 10
+abbrev pub flagsStart : ℕ
+flagsStart = 10
 
-abbrev pub sumsAt : ℕ
-sumsAt = flagsAt + flagCount
+abbrev pub sumsStart : ℕ
+sumsStart = flagsStart + flagCount
 
-abbrev pub keptAt : ℕ
-keptAt = sumsAt + 8 * sumCount
+abbrev pub keptStart : ℕ
+keptStart = sumsStart + 8 * sumCount
 
 abbrev pub stateSize : ℕ
-stateSize = keptAt + keptSize
+stateSize = keptStart + keptSize
 
 -- ---- written
 abbrev pub flagBytes : List Bool → List ℕ
@@ -71,10 +71,10 @@ abbrev pub flagAt : List ℕ → ℕ → Bool
 flagAt b at = eqb (getD b at 0) 1
 
 abbrev pub flagsOf : List ℕ → List Bool
-flagsOf b = listBelow flagCount (λ i. flagAt b (flagsAt + i))
+flagsOf b = listBelow flagCount (λ i. flagAt b (flagsStart + i))
 
 abbrev pub sumsOf : List ℕ → List ℤ
-sumsOf b = listBelow sumCount (λ i. ofBits (number 8 b (sumsAt + 8 * i)))
+sumsOf b = listBelow sumCount (λ i. ofBits (number 8 b (sumsStart + 8 * i)))
 
 -- bytes of which one that should be 0 or 1 is neither are no state: they get a phase that no state has, so that a call refuses them by 2
 abbrev pub noPhase : ℕ
@@ -92,5 +92,5 @@ stateOf b = record {
   saved = number 2 b savedAt;
   sums = sumsOf b;
   flags = flagsOf b;
-  kept = drop keptAt b;
+  kept = drop keptStart b;
 }

@@ -4,7 +4,7 @@ ghost use Prim.Native.Nat.{_≤_};
 ghost use lib.ListN.{length, drop};
 ghost use Rattle.splice.specs.Splice.{splice};
 ghost use Rattle.state.specs.State.{sumCount, flagCount, keptSize};
-ghost use Rattle.state_bytes.specs.Bytes.{pageAt, phaseAt, flagsAt, sumsAt, keptAt, stateSize, flagBytes, sumBytes, arrayBytes, placeBytes, markBytes, bytesOf, flagsPlain, flagsOf, sumsOf, phaseOf, stateOf};
+ghost use Rattle.state_bytes.specs.Bytes.{pageAt, phaseAt, flagsStart, sumsStart, keptStart, stateSize, flagBytes, sumBytes, arrayBytes, placeBytes, markBytes, bytesOf, flagsPlain, flagsOf, sumsOf, phaseOf, stateOf};
 use little_endian::number2;
 use little_endian::number4;
 use little_endian::number8;
@@ -24,13 +24,13 @@ const PHASE_AT: usize = 8;
 
 const SEEN_AT: usize = 9;
 
-const FLAGS_AT: usize = 10;
+const FLAGS_START: usize = 10;
 
-const SUMS_AT: usize = FLAGS_AT + state::FLAG_COUNT;
+const SUMS_START: usize = FLAGS_START + state::FLAG_COUNT;
 
-const KEPT_AT: usize = SUMS_AT + 8 * state::SUM_COUNT;
+const KEPT_START: usize = SUMS_START + 8 * state::SUM_COUNT;
 
-pub const STATE_SIZE: usize = KEPT_AT + state::KEPT_SIZE;
+pub const STATE_SIZE: usize = KEPT_START + state::KEPT_SIZE;
 
 // A phase that no state has.
 const NO_PHASE: u8 = 3;
@@ -38,33 +38,33 @@ const NO_PHASE: u8 = 3;
 // ---- written
 fn put_flags(flags: &[bool], out: &mut [u8])
     requires { ⌜ (length (now flags) ≡ flagCount) × (stateSize ≤ length (now out)) ⌝ }
-    ensures { λ _. ⌜ now (out .exit) ≡ splice (now (out .entry)) flagsAt (flagBytes (now (flags .entry))) ⌝ }
+    ensures { λ _. ⌜ now (out .exit) ≡ splice (now (out .entry)) flagsStart (flagBytes (now (flags .entry))) ⌝ }
 {
     let mut i = 0;
     while i < state::FLAG_COUNT {
-        out[FLAGS_AT + i] = counts::one_if(flags[i]) as u8;
+        out[FLAGS_START + i] = counts::one_if(flags[i]) as u8;
         i += 1;
     }
 }
 
 fn put_sums(sums: &[i64], out: &mut [u8])
     requires { ⌜ (length (now sums) ≡ sumCount) × (stateSize ≤ length (now out)) ⌝ }
-    ensures { λ _. ⌜ now (out .exit) ≡ splice (now (out .entry)) sumsAt (sumBytes (now (sums .entry))) ⌝ }
+    ensures { λ _. ⌜ now (out .exit) ≡ splice (now (out .entry)) sumsStart (sumBytes (now (sums .entry))) ⌝ }
 {
     let mut i = 0;
     while i < state::SUM_COUNT {
-        put8(little_endian::bits_of(sums[i]), SUMS_AT + 8 * i, out);
+        put8(little_endian::bits_of(sums[i]), SUMS_START + 8 * i, out);
         i += 1;
     }
 }
 
 fn put_arrays(flags: &[bool], sums: &[i64], kept: &[u8], out: &mut [u8])
     requires { ⌜ (length (now flags) ≡ flagCount) × (length (now sums) ≡ sumCount) × (length (now kept) ≡ keptSize) × (length (now out) ≡ stateSize) ⌝ }
-    ensures { λ _. ⌜ now (out .exit) ≡ splice (now (out .entry)) flagsAt (arrayBytes (now (flags .entry)) (now (sums .entry)) (now (kept .entry))) ⌝ }
+    ensures { λ _. ⌜ now (out .exit) ≡ splice (now (out .entry)) flagsStart (arrayBytes (now (flags .entry)) (now (sums .entry)) (now (kept .entry))) ⌝ }
 {
     put_flags(flags, out);
     put_sums(sums, out);
-    splice::copy(kept, state::KEPT_SIZE, KEPT_AT, out);
+    splice::copy(kept, state::KEPT_SIZE, KEPT_START, out);
 }
 
 fn put_place(page: u32, line: u16, saved: u16, out: &mut [u8])
@@ -129,7 +129,7 @@ fn flags_of(b: &[u8]) -> [bool; state::FLAG_COUNT]
     let mut flags = [false; state::FLAG_COUNT];
     let mut i = 0;
     while i < state::FLAG_COUNT {
-        flags[i] = b[FLAGS_AT + i] == 1;
+        flags[i] = b[FLAGS_START + i] == 1;
         i += 1;
     }
     flags
@@ -142,7 +142,7 @@ fn sums_of(b: &[u8]) -> [i64; state::SUM_COUNT]
     let mut sums = [0i64; state::SUM_COUNT];
     let mut i = 0;
     while i < state::SUM_COUNT {
-        sums[i] = little_endian::of_bits(number8(b, SUMS_AT + 8 * i));
+        sums[i] = little_endian::of_bits(number8(b, SUMS_START + 8 * i));
         i += 1;
     }
     sums
@@ -150,9 +150,9 @@ fn sums_of(b: &[u8]) -> [i64; state::SUM_COUNT]
 
 fn kept_of(b: &[u8]) -> [u8; state::KEPT_SIZE]
     requires { ⌜ length (now b) ≡ stateSize ⌝ }
-    ensures { λ r. ⌜ r ≡ drop keptAt (now (b .entry)) ⌝ }
+    ensures { λ r. ⌜ r ≡ drop keptStart (now (b .entry)) ⌝ }
 {
-    state::padded(&b[KEPT_AT..])
+    state::padded(&b[KEPT_START..])
 }
 
 pub fn decode(b: &[u8]) -> State

@@ -10,12 +10,12 @@ use lib.ListN.{length, getD, length-set}
 use Rattle.counts.proofs.Laws.{list-filled}
 use Rattle.tables.proofs.Fill.{fill-next}
 use Rattle.state.specs.State.{flagCount}
-use Rattle.state_bytes.specs.Bytes.{flagsAt, flagAt}
+use Rattle.state_bytes.specs.Bytes.{flagsStart, flagAt}
 use Rattle.state_bytes.proofs.flags_of.Statement.{statement}
 use Rattle.state_bytes.proofs.flags_of.Tie as tie
 
 abbrev Inv-loop : tie.InvT-loop
-Inv-loop b flags₀ i₀ flags i = (i ≤ flagCount) × (length flags ≡ flagCount) × ((k : ℕ) → k < i → getD flags k false ≡ flagAt b (flagsAt + k))
+Inv-loop b flags₀ i₀ flags i = (i ≤ flagCount) × (length flags ≡ flagCount) × ((k : ℕ) → k < i → getD flags k false ≡ flagAt b (flagsStart + k))
 
 abbrev μ-loop : tie.MeasureT-loop
 μ-loop b flags₀ i₀ flags i = flagCount - i
@@ -24,7 +24,7 @@ loop-again : tie.Need-loop-again Inv-loop μ-loop
 loop-again c =
     let l = c .before .before .loop in
     let b = c .before .before .before .args .b .now in
-    (omega arith, simp length-set (l .inv .1), fill-next false (l .i) (l .flags) _ (λ k. flagAt b (flagsAt + k)) (omega arith) refl (l .inv .2))
+    (omega arith, simp length-set (l .inv .1), fill-next false (l .i) (l .flags) _ (λ k. flagAt b (flagsStart + k)) (omega arith) refl (l .inv .2))
 
 returns : tie.Need-returns Inv-loop μ-loop
 returns c =

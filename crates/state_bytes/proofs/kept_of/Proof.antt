@@ -9,7 +9,7 @@ use lib.Seq.{take-all}
 use Rattle.splice.proofs.Laws.{splice-whole}
 use Rattle.state.specs.State.{keptSize}
 use Rattle.state.specs.Kept.{paddedRow}
-use Rattle.state_bytes.specs.Bytes.{keptAt}
+use Rattle.state_bytes.specs.Bytes.{keptStart}
 use Rattle.state_bytes.proofs.kept_of.Statement.{statement}
 use Rattle.state_bytes.proofs.kept_of.Tie as tie
 
@@ -17,9 +17,9 @@ returns : tie.Need-returns
 unfolding paddedRow
 returns c =
     let b = c .before .before .before .args .b .now in
-    let k = drop keptAt b in
-    let n = length-drop keptAt b in
-    c .padded .ensures ∙ ap paddedRow (take-all (length b - keptAt) k (omega arith)) ∙ splice-whole (replicate keptSize 0) k (omega (arith, length-replicate {A = ℕ} keptSize 0))
+    let k = drop keptStart b in
+    let n = length-drop keptStart b in
+    c .padded .ensures ∙ ap paddedRow (take-all (length b - keptStart) k (omega arith)) ∙ splice-whole (replicate keptSize 0) k (omega (arith, length-replicate {A = ℕ} keptSize 0))
 
 pub kept-of-spec : {M : Type 1} → statement M
 kept-of-spec = tie.close (tie.spec (λ c. search needs) (λ c. search needs) (λ c. search needs) (λ c κs. search needs) returns)

@@ -12,12 +12,12 @@ use Rattle.splice.proofs.Going.{Going, going-start}
 use Rattle.state.specs.State.{flagCount}
 use Rattle.little_endian.specs.Numbers.{bytes}
 use Rattle.little_endian.proofs.Laws.{length-entries, entry-put, entries-put}
-use Rattle.state_bytes.specs.Bytes.{flagsAt, flagBytes}
+use Rattle.state_bytes.specs.Bytes.{flagsStart, flagBytes}
 use Rattle.state_bytes.proofs.put_flags.Statement.{statement}
 use Rattle.state_bytes.proofs.put_flags.Tie as tie
 
 abbrev Inv-loop : tie.InvT-loop
-Inv-loop flags out₀ i₀ out i = (i ≤ flagCount) × Going out₀ flagsAt (flagBytes flags) out (flagsAt + i) (flagBytes (drop i flags))
+Inv-loop flags out₀ i₀ out i = (i ≤ flagCount) × Going out₀ flagsStart (flagBytes flags) out (flagsStart + i) (flagBytes (drop i flags))
 
 abbrev μ-loop : tie.MeasureT-loop
 μ-loop flags out₀ i₀ out i = flagCount - i
@@ -25,13 +25,13 @@ abbrev μ-loop : tie.MeasureT-loop
 loop-holds : tie.Need-loop-holds Inv-loop μ-loop
 loop-holds c =
     let a = c .before .before .args in
-    (omega arith, going-start (a .out .now) flagsAt (flagBytes (a .flags .now)) (omega (arith, length-entries 0 bit (a .flags .now))))
+    (omega arith, going-start (a .out .now) flagsStart (flagBytes (a .flags .now)) (omega (arith, length-entries 0 bit (a .flags .now))))
 
 loop-again : tie.Need-loop-again Inv-loop μ-loop
 unfolding bytes
 loop-again c =
     let l = c .before .before .before .loop in
-    (omega arith, entry-put 0 bit false _ (l .i) (l .inv .1) (omega arith) (ap (set (l .out) (flagsAt + l .i)) (c .one-if .ensures .0) ∙ splice-set (l .out) _ _ (omega (arith, l .inv .1 .size))) (omega arith))
+    (omega arith, entry-put 0 bit false _ (l .i) (l .inv .1) (omega arith) (ap (set (l .out) (flagsStart + l .i)) (c .one-if .ensures .0) ∙ splice-set (l .out) _ _ (omega (arith, l .inv .1 .size))) (omega arith))
 
 pub put-flags-spec : {M : Type 1} → statement M
 put-flags-spec =

@@ -14,12 +14,12 @@ use Rattle.tables.proofs.Fill.{fill-next}
 use Rattle.state.specs.State.{sumCount}
 use Rattle.little_endian.specs.Numbers.{number}
 use Rattle.little_endian.specs.Sign.{ofBits}
-use Rattle.state_bytes.specs.Bytes.{sumsAt}
+use Rattle.state_bytes.specs.Bytes.{sumsStart}
 use Rattle.state_bytes.proofs.sums_of.Statement.{statement}
 use Rattle.state_bytes.proofs.sums_of.Tie as tie
 
 abbrev Inv-loop : tie.InvT-loop
-Inv-loop b sums₀ i₀ sums i = (i ≤ sumCount) × (length sums ≡ sumCount) × ((k : ℕ) → k < i → getD sums k (pos 0) ≡ ofBits (number 8 b (sumsAt + 8 * k)))
+Inv-loop b sums₀ i₀ sums i = (i ≤ sumCount) × (length sums ≡ sumCount) × ((k : ℕ) → k < i → getD sums k (pos 0) ≡ ofBits (number 8 b (sumsStart + 8 * k)))
 
 abbrev μ-loop : tie.MeasureT-loop
 μ-loop b sums₀ i₀ sums i = sumCount - i
@@ -29,7 +29,7 @@ loop-again c =
     let l = c .before .before .before .loop in
     let b = c .before .before .before .before .before .args .b .now in
     let e = toZ-ofZ w64 _ (record { sfits = c .of-bits .ok }) ∙ c .of-bits .ensures ∙ ap ofBits (c .before .number8 .ensures) in
-    (omega arith, simp length-set (l .inv .1), fill-next (pos 0) (l .i) (l .sums) _ (λ k. ofBits (number 8 b (sumsAt + 8 * k))) (omega arith) e (l .inv .2))
+    (omega arith, simp length-set (l .inv .1), fill-next (pos 0) (l .i) (l .sums) _ (λ k. ofBits (number 8 b (sumsStart + 8 * k))) (omega arith) e (l .inv .2))
 
 returns : tie.Need-returns Inv-loop μ-loop
 returns c =
