@@ -8,7 +8,7 @@ use mathlib.Core.Logic.{_⊎_, inl, inr, ⊎-elim}
 use native.Mathlib.Omega.{arith}
 use borrow.Author.Tests.{eq-eqb, ne-eqb}
 use lib.Dec.{eqb}
-use lib.ListN.{length, replicate, take, length-replicate}
+use lib.ListN.{length, take}
 use Rattle.counts.proofs.Laws.{by-test}
 use Rattle.tables.specs.declared.Head.{Head}
 use Rattle.tables.specs.Head.{headOf}
