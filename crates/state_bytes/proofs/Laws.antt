@@ -13,7 +13,7 @@ use Rattle.state.specs.State.{Sized}
 use Rattle.little_endian.specs.Numbers.{bytes}
 use Rattle.little_endian.specs.Sign.{bits}
 use Rattle.little_endian.proofs.Laws.{length-entries}
-use Rattle.state_bytes.specs.Bytes.{stateSize, flagBytes, sumBytes, bytesOf}
+use Rattle.state_bytes.specs.Bytes.{stateSize, bytesOf}
 
 pub splice-three : (old : List ℕ) (at : ℕ) (xs : List ℕ) (at′ : ℕ) (ys : List ℕ) (at″ : ℕ) (zs : List ℕ) {one two new : List ℕ}
     → one ≡ splice old at xs → two ≡ splice one at′ ys → new ≡ splice two at″ zs → at′ ≡ at + length xs → at″ ≡ at′ + length ys → at ≤ length old

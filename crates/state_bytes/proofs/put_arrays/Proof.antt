@@ -1,6 +1,5 @@
 -- `state_bytes::put_arrays` meets its contract: three arrays, one behind the other.
 -- Assumes nothing.
-use mathlib.Core.Path.{refl}
 use native.Mathlib.Omega.{arith}
 use borrow.Author.Needs.{needs}
 use lib.Seq.{take-all}
