@@ -12,7 +12,7 @@ use Rattle.layout.specs.Layout.{Laid, layout}
 use Rattle.call_text.specs.Bytes.{Reading, reading}
 use Rattle.pages.specs.declared.Job.{Job}
 use Rattle.pages.specs.Outcome.{outcome, written}
-use Rattle.verdict.specs.declared.Verdict.the-variants.{Sum}
+use Rattle.verdict.specs.declared.Verdict.the-variants as verdict
 use Rattle.state.specs.declared.State.{State}
 use Rattle.answer.specs.Result.{Result, refuse, placeOf, at, answered}
 use Rattle.work.specs.declared.Prepared.{Prepared}
@@ -53,4 +53,4 @@ unfoldable pub settled : Head → List ℕ → State → Work → List ℕ → R
 settled h t s w out =
     cond (w .ok)
     (record { answer = answered s (moved w) (outcome h t (w .inputs .prefix) (length out) (w .laid)); out = written h t (w .inputs) out (w .laid) })
-    (refuse s out Sum)
+    (refuse s out verdict.Sum)
