@@ -1,4 +1,4 @@
--- The sections of the table: one accessor for every number of every entry. Starts and sizes stand here and nowhere else. The version does not.
+-- The sections, and one accessor for every number of every entry of the table. Its sizes stand here and nowhere else. The version does not.
 use Prim.Native.Nat.{ℕ, _+_, _*_}
 use mathlib.Core.List.{List, [], _∷_}
 use lib.ListN.{getD}

@@ -148,7 +148,8 @@ fn head_of(d: &[u8]) -> Head
     head_with(counts_of(d), settings_of(d))
 }
 
-// A description opened: its head, where it passes D1. One function for all who ask, so that none of them has it set into it.
+// A description opened: its head, where it passes D1. One function for all who ask, which keeps a call short enough for the
+// compiler to set into the thin program: a state copied once less a row.
 pub fn opening_of(d: &[u8]) -> Opened
     ensures { λ r. ⌜ r ≡ opening (now (d .entry)) ⌝ }
 {
