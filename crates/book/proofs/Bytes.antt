@@ -8,7 +8,7 @@ use Rattle.tables.specs.Table.{lineCount}
 use Rattle.group_text.specs.Groups.{joinFrom, ownBytes, groupBytes}
 use Rattle.layout.specs.Layout.{Due}
 use Rattle.layout.specs.Lines.{linesFrom, linesOf}
-use Rattle.call_text.specs.Bytes.{Reading, inputsOf, viewOf, dueBytes}
+use Rattle.due_text.specs.Bytes.{Reading, inputsOf, viewOf, dueBytes}
 use Rattle.book.specs.Sheet.{recordsFrom, sheetOf}
 
 -- the lines of a group, and of all groups due, by their numbers

@@ -15,8 +15,8 @@ use Rattle.unpacked.specs.Table.{table}
 use Rattle.layout.specs.declared.Pos.{Pos}
 use Rattle.layout.specs.Layout.{Due}
 use Rattle.printed.proofs.Laws.{no-prefix-short}
-use Rattle.call_text.specs.Bytes.{Reading}
-use Rattle.call_text.proofs.Bytes.{printed-part}
+use Rattle.due_text.specs.Bytes.{Reading}
+use Rattle.due_text.proofs.Bytes.{printed-part}
 use Rattle.place.specs.Place.{lastPage}
 use Rattle.pagination.specs.All.{All}
 use Rattle.pagination.specs.Claims.{Sound, rankAt, Walk}

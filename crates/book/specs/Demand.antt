@@ -9,7 +9,7 @@ use Rattle.tables.specs.declared.Head.{Head}
 use Rattle.unpacked.specs.Head.{headOf}
 use Rattle.unpacked.specs.Table.{table, literals}
 use Rattle.printed.specs.Printed.{noPrefix}
-use Rattle.call_text.specs.Bytes.{Reading, reading}
+use Rattle.due_text.specs.Bytes.{Reading, reading}
 use Rattle.place.specs.Place.{lastPage}
 use Rattle.pagination.specs.All.{All}
 use Rattle.pagination.specs.Rising.{Rises}

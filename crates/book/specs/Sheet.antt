@@ -7,7 +7,7 @@ use Rattle.item_text.specs.Items.{onLine}
 use Rattle.line_text.specs.Lines.{lineBytes}
 use Rattle.layout.specs.Layout.{Due}
 use Rattle.layout.specs.Lines.{linesOf}
-use Rattle.call_text.specs.Bytes.{Reading, inputsOf, viewOf}
+use Rattle.due_text.specs.Bytes.{Reading, inputsOf, viewOf}
 
 -- the lines of a group due from line k on, with their numbers: "Six digits of page, three of line, W characters, one byte 10."
 unfoldable pub recordsFrom : Head → List ℕ → Reading → Due → List ℕ → ℕ → List ℕ

@@ -1,10 +1,11 @@
 -- The parts of a call printed one behind the other.
+--     printed-nothing                               a call that does not open, or close, the report
 --     turn-changes, turn-due, turn-printed          a turn: its page changes, and its group
 --     Pass, pass-start, pass-room, pass-step, pass-end      the turns of a plan
 --     body-room, end-room, all-printed              the opening, the turns and the closing
 -- Assumes nothing.
 use mathlib.Core.Path.{_≡_, refl, sym, ap, _∙_}
-use mathlib.Core.List.{List, _++_}
+use mathlib.Core.List.{List, [], _++_}
 use Prim.Native.Nat.{ℕ, _+_, _≤_, _<_}
 use Rattle.splice.specs.Splice.{Wrote}
 use Rattle.tables.specs.declared.Head.{Head}
@@ -13,14 +14,20 @@ use Rattle.plan.specs.declared.Plan.{Plan}
 use Rattle.plan.specs.Plan.{turns, turnCount, turnAt}
 use Rattle.layout.specs.declared.Pos.{Pos}
 use Rattle.layout.specs.declared.Placed.{Placed}
-use Rattle.layout.specs.Layout.{Due, Laid, dueOf, pageChanges, placed, placeGroup, placeAll, opened, closed, layout}
+use Rattle.layout.specs.Layout.{Due, Laid, nothing, dueOf, pageChanges, placed, placeGroup, placeAll, opened, closed, layout}
 use Rattle.layout.proofs.Dues.{group-dues, group-to}
 use Rattle.layout.proofs.Steps.{layout-dues, layout-to}
 use Rattle.layout.proofs.Walks.{ahead, ahead-step, ahead-end, Walk, walk-start, walk-step, walk-end}
 use Rattle.call_text.specs.declared.Cursor.{Cursor}
-use Rattle.call_text.specs.Bytes.{Reading, dueBytes}
-use Rattle.call_text.specs.Facts.{Room, Printed}
-use Rattle.call_text.proofs.Prints.{Printing, printing-start, printing-rest, printing-room, printing-on, printing-last, printing-end}
+use Rattle.due_text.specs.Bytes.{Reading, dueBytes}
+use Rattle.due_text.specs.Facts.{Room}
+use Rattle.call_text.specs.Facts.{Printed}
+use Rattle.due_text.proofs.Prints.{Printing, printing-start, printing-rest, printing-room, printing-on, printing-last, printing-end}
+
+-- nothing printed
+pub printed-nothing : {h : Head} {t : List ℕ} {rd : Reading} {old : List ℕ} {at : ℕ} {s : Pos} → Room h t rd [] at old
+    → Printed h t rd (nothing s) old at old (record { at = at; pos = s })
+printed-nothing r = record { wrote = printing-end (printing-start r) refl; pos = refl }
 
 -- one turn, from where it is placed
 module _ {h : Head} {t : List ℕ} {rd : Reading} (turn : Turn) (s : Pos) (start : ℕ) (old : List ℕ) (room : Room h t rd (placeGroup h t turn s .dues) start old)

@@ -20,8 +20,8 @@ use Rattle.accepted.proofs.Accept.{accepted}
 use Rattle.layout.specs.Lines.{lineTotal}
 use Rattle.printed.specs.Printed.{Short}
 use Rattle.printed.proofs.Laws.{no-prefix-short}
-use Rattle.call_text.specs.Bytes.{dueBytes, byteCount}
-use Rattle.call_text.proofs.Bytes.{length-dueBytes, printed-part}
+use Rattle.due_text.specs.Bytes.{dueBytes, byteCount}
+use Rattle.due_text.proofs.Bytes.{length-dueBytes, printed-part}
 use Rattle.state.specs.State.{started, running}
 use Rattle.state.specs.declared.State.{State}
 use Rattle.verdict.specs.declared.Verdict.{Verdict}

@@ -7,7 +7,7 @@ use lib.ListN.{length, getD, take, drop}
 use Rattle.unpacked.specs.Head.{headOf}
 use Rattle.unpacked.specs.Table.{table}
 use Rattle.printed.specs.Printed.{noPrefix}
-use Rattle.call_text.specs.Bytes.{dueBytes, byteCount}
+use Rattle.due_text.specs.Bytes.{dueBytes, byteCount}
 use Rattle.pagination.specs.All.{All}
 use Rattle.state.specs.State.{freshAt}
 use Rattle.answer.specs.Result.{Result}

@@ -10,7 +10,7 @@ use Rattle.unpacked.specs.Head.{headOf}
 use Rattle.unpacked.specs.Table.{table, literals}
 use Rattle.layout.specs.Layout.{Due}
 use Rattle.printed.specs.Printed.{noPrefix}
-use Rattle.call_text.specs.Bytes.{dueBytes, byteCount}
+use Rattle.due_text.specs.Bytes.{dueBytes, byteCount}
 use Rattle.state.specs.State.{idle, started}
 use Rattle.state.specs.declared.State.{State}
 use Rattle.verdict.specs.Verdict.{number}

@@ -11,7 +11,7 @@ use Rattle.counts.proofs.Laws.{by-test}
 use Rattle.splice.specs.Splice.{splice}
 use Rattle.tables.specs.declared.Head.{Head}
 use Rattle.place.specs.Place.{lastPage}
-use Rattle.call_text.specs.Bytes.{dueBytes, byteCount}
+use Rattle.due_text.specs.Bytes.{dueBytes, byteCount}
 use Rattle.pages.specs.Outcome.{pastLast, tooShort, outcome, written}
 use Rattle.state.specs.declared.State.{State}
 use Rattle.verdict.specs.declared.Verdict.{Verdict}

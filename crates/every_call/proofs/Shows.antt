@@ -6,7 +6,7 @@ use mathlib.Core.List.{List}
 use Rattle.tables.specs.declared.Head.{Head}
 use Rattle.printed.specs.Printed.{noPrefix}
 use Rattle.line_text.specs.Facts.{ItemsIn}
-use Rattle.call_text.proofs.Bytes.{GroupsIn, in-layout}
+use Rattle.due_text.proofs.Bytes.{GroupsIn, in-layout}
 use Rattle.accepted.specs.Accepted.{Accepted}
 use Rattle.state.specs.declared.State.{State}
 use Rattle.work.specs.Work.{Work}

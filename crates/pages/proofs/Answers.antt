@@ -15,9 +15,9 @@ use Rattle.layout.specs.declared.Pos.{Pos}
 use Rattle.layout.specs.Layout.{Laid, layout}
 use Rattle.measure.specs.declared.Measured.{Measured}
 use Rattle.measure.specs.Measure.{measured}
-use Rattle.call_text.specs.Bytes.{Reading, dueBytes, byteCount}
-use Rattle.call_text.specs.Facts.{Printable, Room}
-use Rattle.call_text.proofs.Bytes.{in-layout, length-dueBytes}
+use Rattle.due_text.specs.Bytes.{Reading, dueBytes, byteCount}
+use Rattle.due_text.specs.Facts.{Printable, Room}
+use Rattle.due_text.proofs.Bytes.{in-layout, length-dueBytes}
 use Rattle.pages.specs.declared.Outcome.the-variants.{Done, PageLimit, NoRoom}
 use Rattle.pages.specs.Outcome.{outcome, written}
 use Rattle.pages.specs.Facts.{Answered}

@@ -5,7 +5,7 @@ use Prim.Native.Nat.{ℕ}
 use lib.ListN.{length}
 use Rattle.tables.specs.declared.Head.{Head}
 use Rattle.layout.specs.Layout.{Laid}
-use Rattle.call_text.specs.Bytes.{Reading}
+use Rattle.due_text.specs.Bytes.{Reading}
 use Rattle.pages.specs.Outcome.{outcome, written}
 use Rattle.pages.specs.declared.Outcome.{Outcome}
 

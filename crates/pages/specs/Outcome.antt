@@ -9,7 +9,7 @@ use Rattle.printed.specs.declared.Prefix.{Prefix}
 use Rattle.tables.specs.declared.Head.{Head}
 use Rattle.place.specs.Place.{lastPage}
 use Rattle.layout.specs.Layout.{Laid}
-use Rattle.call_text.specs.Bytes.{Reading, dueBytes, byteCount}
+use Rattle.due_text.specs.Bytes.{Reading, dueBytes, byteCount}
 use Rattle.pages.specs.declared.Outcome.{Outcome}
 use Rattle.pages.specs.declared.Outcome.the-variants.{Done, PageLimit, NoRoom}
 

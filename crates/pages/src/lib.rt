@@ -1,8 +1,8 @@
 // Measure, test, print: the groups of a call.
 ghost use Rattle.layout.specs.Layout.{layout as layoutSpec};
 ghost use Rattle.layout.specs.Facts.{Called};
-ghost use Rattle.call_text.specs.Bytes.{reading};
-ghost use Rattle.call_text.specs.Facts.{Printable};
+ghost use Rattle.due_text.specs.Bytes.{reading};
+ghost use Rattle.due_text.specs.Facts.{Printable};
 ghost use Rattle.pages.specs.Facts.{Answered};
 use call_text::Task;
 use layout::Pos;

@@ -19,7 +19,7 @@ use Rattle.description.specs.declared.Checked.the-variants as checked
 use Rattle.description.specs.Check as check
 use Rattle.pages.specs.declared.Outcome.the-variants.{Done, PageLimit, NoRoom}
 use Rattle.pages.specs.Outcome.{pastLast, tooShort, outcome, written}
-use Rattle.call_text.specs.Bytes.{dueBytes, byteCount}
+use Rattle.due_text.specs.Bytes.{dueBytes, byteCount}
 use Rattle.splice.specs.Splice.{splice}
 use Rattle.state.specs.declared.State.{State}
 use Rattle.verdict.specs.declared.Verdict.{Verdict}

@@ -39,7 +39,7 @@ use Rattle.shape.specs.Shape as shape-Shape
 use Rattle.plan.specs.Plan as plan-Plan
 use Rattle.layout.specs.Layout as layout-Layout
 use Rattle.layout.specs.Lines as layout-Lines
-use Rattle.call_text.specs.Bytes as call-text-Bytes
+use Rattle.due_text.specs.Bytes as call-text-Bytes
 use Rattle.pages.specs.Outcome as pages-Outcome
 use Rattle.state.specs.Kept as state-Kept
 use Rattle.state_rules.specs.Rules as state-rules-Rules

@@ -21,13 +21,13 @@ use Rattle.amounts.proofs.Good.{GoodSums, first-good, later-good, last-good}
 use Rattle.place.specs.Place.{lastPage}
 use Rattle.printed.specs.Printed.{noPrefix}
 use Rattle.printed.proofs.Laws.{no-prefix-short}
-use Rattle.call_text.specs.Bytes.{reading}
+use Rattle.due_text.specs.Bytes.{reading}
 use Rattle.plan.specs.declared.Plan.{Plan}
 use Rattle.plan.specs.Plan.{firstPlan, laterPlan, lastPlan}
 use Rattle.plan.specs.Facts.{Planned}
 use Rattle.layout.specs.declared.Pos.{Pos}
 use Rattle.layout.specs.Facts.{Called}
-use Rattle.call_text.specs.Facts.{Printable}
+use Rattle.due_text.specs.Facts.{Printable}
 use Rattle.state.specs.declared.State.{State}
 use Rattle.state.specs.State.{started, running, sumCount, flagCount, keptSize, freshAt}
 use Rattle.state_rules.specs.Facts.{RunningState}

@@ -9,7 +9,7 @@ use Rattle.printed.specs.Printed.{noPrefix}
 use Rattle.plan.specs.declared.Plan.{Plan}
 use Rattle.layout.specs.declared.Pos.{Pos}
 use Rattle.layout.specs.Layout.{Laid, layout}
-use Rattle.call_text.specs.Bytes.{Reading, reading}
+use Rattle.due_text.specs.Bytes.{Reading, reading}
 use Rattle.pages.specs.declared.Job.{Job}
 use Rattle.pages.specs.Outcome.{outcome, written}
 use Rattle.verdict.specs.declared.Verdict.the-variants as verdict

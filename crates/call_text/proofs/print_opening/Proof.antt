@@ -1,7 +1,8 @@
 -- `call_text::print_opening` meets its contract: the test says which side of the `cond`. Assumes nothing.
 use borrow.Author.Needs.{needs}
 use Rattle.layout.proofs.Dues.{opening-dues}
-use Rattle.call_text.proofs.Prints.{start-in, printed-nothing}
+use Rattle.due_text.proofs.Prints.{start-in}
+use Rattle.call_text.proofs.Turns.{printed-nothing}
 use Rattle.call_text.proofs.print_opening.Statement.{statement}
 use Rattle.call_text.proofs.print_opening.Tie as tie
 

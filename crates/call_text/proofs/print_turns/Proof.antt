@@ -4,7 +4,7 @@ use Prim.Native.Nat.{_-_}
 use native.Mathlib.Omega.{arith}
 use borrow.Author.Needs.{needs}
 use Rattle.layout.proofs.Walks.{walk-ready}
-use Rattle.call_text.specs.Bytes.{Reading, reading}
+use Rattle.due_text.specs.Bytes.{Reading, reading}
 use Rattle.call_text.proofs.Turns.{Pass, pass-start, pass-room, pass-step, pass-end}
 use Rattle.call_text.proofs.print_turns.Statement.{statement}
 use Rattle.call_text.proofs.print_turns.Tie as tie

@@ -2,7 +2,7 @@
 use mathlib.Core.Path.{refl}
 use native.Mathlib.Omega.{arith}
 use borrow.Author.Needs.{needs}
-use Rattle.call_text.specs.Bytes.{Reading, reading}
+use Rattle.due_text.specs.Bytes.{Reading, reading}
 use Rattle.pages.proofs.Answers.{count-small, answer-limit, answer-short, answer-room, answer-done}
 use Rattle.pages.proofs.call.Statement.{statement}
 use Rattle.pages.proofs.call.Tie as tie

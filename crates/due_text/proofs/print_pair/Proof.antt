@@ -1,9 +1,9 @@
--- `call_text::print_pair` meets its contract: one print, and the other right behind it. Assumes nothing.
+-- `due_text::print_pair` meets its contract: one print, and the other right behind it. Assumes nothing.
 use mathlib.Core.Path.{refl}
 use borrow.Author.Needs.{needs}
-use Rattle.call_text.proofs.Prints.{printing-start, printing-room, printing-on, printing-rest, printing-last}
-use Rattle.call_text.proofs.print_pair.Statement.{statement}
-use Rattle.call_text.proofs.print_pair.Tie as tie
+use Rattle.due_text.proofs.Prints.{printing-start, printing-room, printing-on, printing-rest, printing-last}
+use Rattle.due_text.proofs.print_pair.Statement.{statement}
+use Rattle.due_text.proofs.print_pair.Tie as tie
 
 pub print-pair-spec : {M : Type 1} → statement M
 print-pair-spec =

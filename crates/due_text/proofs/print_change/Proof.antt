@@ -1,9 +1,9 @@
--- `call_text::print_change` meets its contract: PF and PH make up a page change. Assumes nothing.
+-- `due_text::print_change` meets its contract: PF and PH make up a page change. Assumes nothing.
 use borrow.Author.Needs.{needs}
 use Rattle.layout.proofs.Dues.{change-dues}
-use Rattle.call_text.proofs.Prints.{start-in}
-use Rattle.call_text.proofs.print_change.Statement.{statement}
-use Rattle.call_text.proofs.print_change.Tie as tie
+use Rattle.due_text.proofs.Prints.{start-in}
+use Rattle.due_text.proofs.print_change.Statement.{statement}
+use Rattle.due_text.proofs.print_change.Tie as tie
 
 pub print-change-spec : {M : Type 1} → statement M
 print-change-spec =

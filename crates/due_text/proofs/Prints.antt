@@ -1,18 +1,17 @@
 -- A run of prints, one right behind the other: `Going` for groups due. The invariant of the printing loops, and the chain of every function
 -- that prints one thing after another. Assumes nothing.
-use mathlib.Core.Path.{_≡_, refl, ap, _∙_}
+use mathlib.Core.Path.{_≡_, ap, _∙_}
 use mathlib.Core.List.{List, [], _++_}
 use Prim.Native.Nat.{ℕ}
 use Rattle.splice.specs.Splice.{Wrote}
 use Rattle.splice.proofs.Going.{Going, going-start, going-room, going-rest, going-on, going-last, going-end}
 use Rattle.tables.specs.declared.Head.{Head}
-use Rattle.layout.specs.declared.Pos.{Pos}
 use Rattle.headings.specs.declared.Start.{Start}
-use Rattle.layout.specs.Layout.{Due, nothing}
+use Rattle.layout.specs.Layout.{Due}
 use Rattle.headings.specs.Headings.{Starts}
-use Rattle.call_text.specs.Bytes.{Reading, dueBytes}
-use Rattle.call_text.specs.Facts.{Printable, Room, StartIn, Printed}
-use Rattle.call_text.proofs.Bytes.{bytes-append}
+use Rattle.due_text.specs.Bytes.{Reading, dueBytes}
+use Rattle.due_text.specs.Facts.{Printable, Room, StartIn}
+use Rattle.due_text.proofs.Bytes.{bytes-append}
 
 -- old and at: where the run began; all: what it prints; out and to: where it stands; rest: what is left to print
 pub record Printing (h : Head) (t : List ℕ) (rd : Reading) (old : List ℕ) (at : ℕ) (all : List Due) (out : List ℕ) (to : ℕ) (rest : List Due) : Type 0 where
@@ -48,11 +47,6 @@ module _ {h : Head} {t : List ℕ} {rd : Reading} {old : List ℕ} {at : ℕ} {a
   pub printing-end : rest ≡ [] → Wrote old at (dueBytes h t rd all) out to
   unfolding dueBytes
   printing-end e = going-end (p .going) (ap (dueBytes h t rd) e)
-
--- nothing printed
-pub printed-nothing : {h : Head} {t : List ℕ} {rd : Reading} {old : List ℕ} {at : ℕ} {s : Pos} → Room h t rd [] at old
-    → Printed h t rd (nothing s) old at old (record { at = at; pos = s })
-printed-nothing r = record { wrote = printing-end (printing-start r) refl; pos = refl }
 
 pub start-in : {h : Head} {t : List ℕ} {above type : ℕ} {s : Start} → Starts h t above type s → StartIn h (s .group) (s .at)
 start-in e = record { group = e .group; small = e .small }

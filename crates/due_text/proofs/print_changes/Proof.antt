@@ -1,4 +1,4 @@
--- `call_text::print_changes` meets its contract. The invariant: the page changes left, printed from here, give all of them. The measure is how
+-- `due_text::print_changes` meets its contract. The invariant: the page changes left, printed from here, give all of them. The measure is how
 -- many are left. Assumes nothing.
 use mathlib.Core.Path.{_≡_, refl}
 use Prim.Native.Nat.{_+_}
@@ -6,10 +6,10 @@ use native.Mathlib.Omega.{arith}
 use borrow.Author.Needs.{needs}
 use Rattle.layout.specs.Layout.{pageChanges}
 use Rattle.layout.proofs.Steps.{change-step, change-end}
-use Rattle.call_text.specs.Bytes.{reading}
-use Rattle.call_text.proofs.Prints.{Printing, printing-start, printing-room, printing-on, printing-end}
-use Rattle.call_text.proofs.print_changes.Statement.{statement}
-use Rattle.call_text.proofs.print_changes.Tie as tie
+use Rattle.due_text.specs.Bytes.{reading}
+use Rattle.due_text.proofs.Prints.{Printing, printing-start, printing-room, printing-on, printing-end}
+use Rattle.due_text.proofs.print_changes.Statement.{statement}
+use Rattle.due_text.proofs.print_changes.Tie as tie
 
 abbrev Inv-loop : tie.InvT-loop
 Inv-loop t h lits kept row sums out₀ from left₀ page₀ to₀ out left page to =

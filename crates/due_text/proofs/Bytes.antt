@@ -29,7 +29,7 @@ use Rattle.group_text.proofs.Groups.{length-groupBytes}
 use Rattle.layout.specs.declared.Pos.{Pos}
 use Rattle.layout.specs.Layout.{Due, Laid, dueOf, pageChange, pageChanges, placeGroup, placeAll, opening, closing, opened, closed, layout}
 use Rattle.layout.specs.Lines.{lineTotal}
-use Rattle.call_text.specs.Bytes.{Reading, inputsOf, viewOf, dueBytes, byteCount}
+use Rattle.due_text.specs.Bytes.{Reading, inputsOf, viewOf, dueBytes, byteCount}
 
 module _ (h : Head) (t : List ℕ) (rd : Reading) where
   pub bytes-append : (us vs : List Due) → dueBytes h t rd (us ++ vs) ≡ dueBytes h t rd us ++ dueBytes h t rd vs

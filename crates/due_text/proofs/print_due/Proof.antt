@@ -1,4 +1,4 @@
--- `call_text::print_due` meets its contract: a group that is present prints its lines, and there is nothing to print of another.
+-- `due_text::print_due` meets its contract: a group that is present prints its lines, and there is nothing to print of another.
 -- Assumes nothing.
 use mathlib.Core.Path.{_≡_, refl, sym, _∙_}
 use mathlib.Core.Bool.{Bool, cond}
@@ -8,10 +8,10 @@ use Rattle.splice.proofs.Going.{going-start, going-end}
 use Rattle.fits.specs.Starts.{present}
 use Rattle.group_text.specs.Groups.{groupBytes}
 use Rattle.layout.specs.Layout.{dueOf}
-use Rattle.call_text.specs.Bytes.{reading, inputsOf, dueBytes}
-use Rattle.call_text.proofs.Bytes.{bytes-due, present-group}
-use Rattle.call_text.proofs.print_due.Statement.{statement}
-use Rattle.call_text.proofs.print_due.Tie as tie
+use Rattle.due_text.specs.Bytes.{reading, inputsOf, dueBytes}
+use Rattle.due_text.proofs.Bytes.{bytes-due, present-group}
+use Rattle.due_text.proofs.print_due.Statement.{statement}
+use Rattle.due_text.proofs.print_due.Tie as tie
 
 -- what there is to print, by the test
 due : (s : tie.Start) {there : Bool} → present (s .args .h) (s .args .t .now) (s .args .p .group) ≡ there → let a = s .args in let v = a .p .first in let rd = reading (a .lits .now) (a .kept .now) (a .row .now) (a .sums .now) (v .flag) (v .prefix) in dueBytes (a .h) (a .t .now) rd (dueOf (a .h) (a .t .now) (a .p .group) (v .«from_kept») (v .page) (v .line)) ≡ cond there (groupBytes (a .h) (a .t .now) (inputsOf rd) v (a .p .group)) []
