@@ -21,13 +21,6 @@ Inv-loop sums ok₀ i₀ ok i = (i ≤ sumCount) × (ok ≡ allBelow i (sumOk su
 abbrev μ-loop : tie.MeasureT-loop
 μ-loop sums ok₀ i₀ ok i = sumCount - i
 
-loop-again : tie.Need-loop-again Inv-loop μ-loop
-loop-again c =
-    let l = c .before .before .before in
-    let s = l .before .args .sums .now in
-    let e = ap inRange (toZ-ofZ w64 (getD s (l .loop .i) (pos 0)) (record { sfits = c .before .within-arg .given })) in
-    all-step (sumOk s) (l .loop .inv) (c .before .before .loop-test .taken) (c .within .ensures ∙ e)
-
 pub sums-ok-spec : {M : Type 1} → statement M
 unfolding sumsOk
 sums-ok-spec =
@@ -41,5 +34,5 @@ sums-ok-spec =
     (λ c κs. search needs)
     (λ c. omega arith)
     (λ c. omega arith)
-    loop-again
+    (λ c. let l = c .before .before .before in all-step _ (l .loop .inv) (c .before .before .loop-test .taken) (c .within .ensures ∙ ap inRange (toZ-ofZ w64 (getD (l .before .args .sums .now) (l .loop .i) (pos 0)) (record { sfits = c .before .within-arg .given }))))
     (λ c. all-end _ (c .before .loop .inv) (c .loop-test .left) refl))
