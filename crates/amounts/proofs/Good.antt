@@ -1,13 +1,14 @@
 -- The sums of every call stay good: in range, as many as counters may be, and 0 beyond the counters.
 -- Assumes nothing.
-use Prim.Native.Nat.{ℕ, _≤_, _<_}
+use Prim.Native.Nat.{ℕ, zero, suc, _≤_, _<_}
 use mathlib.Core.Path.{_≡_, refl, _∙_}
 use mathlib.Core.Bool.{Bool, true, false}
 use mathlib.Core.List.{List}
 use native.Mathlib.Omega.{arith}
 use lib.IntN.{ℤ, pos, _+ℤ_}
-use lib.ListN.{length, getD, set, length-set}
+use lib.ListN.{length, getD, set, replicate, length-set, length-replicate}
 use lib.Seq.{getD-set-other}
+use Rattle.counts.specs.Below.{allBelow}
 use Rattle.counts.proofs.Laws.{by-cond}
 use Rattle.file.specs.Limits.{countersMax}
 use Rattle.tables.specs.declared.Head.{Head}
@@ -25,6 +26,16 @@ pub record GoodSums (n : ℕ) (l : List ℤ) : Type 0 where
   pub range : sumsOk l ≡ true
   pub long : length l ≡ countersMax
   pub beyond : (i : ℕ) → n ≤ i → getD l i (pos 0) ≡ pos 0
+
+zeros-at : (n i : ℕ) → getD (replicate n (pos 0)) i (pos 0) ≡ pos 0
+zeros-at zero i = refl
+zeros-at (suc n) zero = refl
+zeros-at (suc n) (suc i) = zeros-at n i
+
+-- sums that are all 0
+pub zeros-good : (n : ℕ) → GoodSums n (replicate countersMax (pos 0))
+unfolding sumsOk allBelow
+zeros-good n = record { range = refl; long = length-replicate countersMax (pos 0); beyond = λ i m. zeros-at countersMax i }
 
 -- totals of n counters; what footings show is in range too
 pub record GoodTotals (n : ℕ) (acc : Totals) : Type 0 where

@@ -48,7 +48,7 @@ use Rattle.book.proofs.Step.{Ok, refused-ok, settled-ok}
 -- what is asked, as the book sees it
 abbrev pub callOf : Asked → List ℕ → Call
 callOf Initiate row = initiate
-callOf (Generate i) row = generate i row
+callOf (Generate detail) row = generate detail row
 callOf Terminate row = terminate
 
 module _ (d : List ℕ) (accepts : checked d ≡ Accepted) (A : facts.Accepted (headOf d) (table d) (literals d)) where
@@ -88,34 +88,34 @@ module _ (d : List ℕ) (accepts : checked d ≡ Accepted) (A : facts.Accepted (
     }
 
     -- ---- GENERATE
-    module _ (busy : s .phase ≡ idle → ⊥) (i : ℕ) (row : List ℕ) (R : RowIn h t i row) where
+    module _ (busy : s .phase ≡ idle → ⊥) (detail : ℕ) (row : List ℕ) (R : RowIn h t detail row) where
       row-controls : SameControls h t (paddedRow row) row
       row-controls = padded-controls row (A .fieldsIn) (omega (arith, R .long)) (A .controlsIn)
 
       -- a row, the first or a later one
-      done-ok : (w : Work) → Shows h t w → w .laid ≡ dueFor h t (b .row) (generate i row) (b .pos) → LaidRunning h t (b .report) (placeOf s) (w .laid) → 1 ≤ s .page
+      done-ok : (w : Work) → Shows h t w → w .laid ≡ dueFor h t (b .row) (generate detail row) (b .pos) → LaidRunning h t (b .report) (placeOf s) (w .laid) → 1 ≤ s .page
           → w .phase ≡ running → SameControls h t (w .kept) row → (w .laid .to .page ≤ lastPage → Stands h t lits (moved w (w .laid .to)))
-          → Ok d Tracks s b (generate i row) (w .inputs) (settled h t s w out)
+          → Ok d Tracks s b (generate detail row) (w .inputs) (settled h t s w out)
       done-ok w x same laid low p k next =
-          settled-ok d Tracks b (generate i row) (w .inputs) s out T w x same refl (rw (T .place) (laid .sound)) refl refl busy (rw (T .place) low) _ (rw (T .place) (laid .paged)) (inr refl)
+          settled-ok d Tracks b (generate detail row) (w .inputs) s out T w x same refl (rw (T .place) (laid .sound)) refl refl busy (rw (T .place) low) _ (rw (T .place) (laid .paged)) (inr refl)
           (λ l. record { stands = next l; place = refl; begins = λ q. absurd (omega arith); goes = λ q. (row, refl, k) })
 
-      first-ok : s .phase ≡ started → Ok d Tracks s b (generate i row) (firstWork h t lits s i row .inputs) (settled h t s (firstWork h t lits s i row) out)
+      first-ok : s .phase ≡ started → Ok d Tracks s b (generate detail row) (firstWork h t lits s detail row .inputs) (settled h t s (firstWork h t lits s detail row) out)
       unfolding firstWork
       first-ok e =
           let fresh = started-facts h t s (T .stands .sized) e (T .stands .rules) in
-          done-ok (firstWork h t lits s i row) (first-shows h t lits A s i row) (rw (T .begins e, T .place) refl) (first-laid h t lits A s (T .stands) i row R e (b .report)) (omega (arith, ap (λ (x : State). x .page) fresh))
-          refl row-controls (first-stands h t lits A s (T .stands) i row R e)
+          done-ok (firstWork h t lits s detail row) (first-shows h t lits A s detail row) (rw (T .begins e, T .place) refl) (first-laid h t lits A s (T .stands) detail row R e (b .report)) (omega (arith, ap (λ (x : State). x .page) fresh))
+          refl row-controls (first-stands h t lits A s (T .stands) detail row R e)
 
       -- the book finds the break against its own row; without a break the kept record has the row's control values already
-      later-ok : s .phase ≡ running → Ok d Tracks s b (generate i row) (laterWork h t lits s i row .inputs) (settled h t s (laterWork h t lits s i row) out)
+      later-ok : s .phase ≡ running → Ok d Tracks s b (generate detail row) (laterWork h t lits s detail row .inputs) (settled h t s (laterWork h t lits s detail row) out)
       unfolding laterWork
       later-ok e =
           let level = breakLevel h t (s .kept) row in
-          done-ok (laterWork h t lits s i row) (later-shows h t lits A s i row) (rw (T .goes e .1, T .place, ← break-values row (T .goes e .2)) refl) (later-laid h t lits A s (T .stands) e i row R (b .report)) (running-page h t lits A s (T .stands) e)
-          refl (by-cond (λ x. SameControls h t x row) (breaks h level) (λ q. row-controls) (λ q. break-none (s .kept) row (ltb-false level (h .controls) q))) (later-stands h t lits A s (T .stands) e i row R)
+          done-ok (laterWork h t lits s detail row) (later-shows h t lits A s detail row) (rw (T .goes e .1, T .place, ← break-values row (T .goes e .2)) refl) (later-laid h t lits A s (T .stands) e detail row R (b .report)) (running-page h t lits A s (T .stands) e)
+          refl (by-cond (λ x. SameControls h t x row) (breaks h level) (λ q. row-controls) (λ q. break-none (s .kept) row (ltb-false level (h .controls) q))) (later-stands h t lits A s (T .stands) e detail row R)
 
-      row-ok : Ok d Tracks s b (generate i row) (rowWork h t lits s i row .inputs) (settled h t s (rowWork h t lits s i row) out)
+      row-ok : Ok d Tracks s b (generate detail row) (rowWork h t lits s detail row .inputs) (settled h t s (rowWork h t lits s detail row) out)
       row-ok =
           by-test (eqb (s .phase) started)
           (λ e. rw e (first-ok (eqb-true (s .phase) started e)))
@@ -162,5 +162,5 @@ module _ (d : List ℕ) (accepts : checked d ≡ Accepted) (A : facts.Accepted (
 
     pub call-ok : (c : Call) → Ok d Tracks s b c (reads d s c) (answer d s c out)
     call-ok initiate = asked-ok Initiate []
-    call-ok (generate i row) = asked-ok (Generate i) row
+    call-ok (generate detail row) = asked-ok (Generate detail) row
     call-ok terminate = asked-ok Terminate []

@@ -48,7 +48,7 @@ module _ (d : List ℕ) (s : State) (out : List ℕ) where
   pub record Branches (P : Call → Result → Type 0) : Type 0 where
     pub refused : (c : Call) (v : Verdict) → 1 ≤ number v → number v ≤ 9 → P c (refuse s out v)
     pub silent : (c : Call) (phase : ℕ) → work d s c ≡ [] → next d s c ≡ freshAt phase → P c (record { answer = record { verdict = verdict.Accepted; count = 0; state = freshAt phase }; out = out })
-    pub row : checked d ≡ Accepted → (i : ℕ) (row : List ℕ) → P (generate i row) (settled h t s (rowWork h t (literals d) s i row) out)
+    pub row : checked d ≡ Accepted → (detail : ℕ) (row : List ℕ) → P (generate detail row) (settled h t s (rowWork h t (literals d) s detail row) out)
     pub last : checked d ≡ Accepted → s .phase ≡ running → P terminate (settled h t s (lastWork h t (literals d) s) out)
 
   module _ (P : Call → Result → Type 0) (B : Branches P) where
@@ -60,7 +60,7 @@ module _ (d : List ℕ) (s : State) (out : List ℕ) where
         (λ k. tables.each-call h t (literals d) s out k (λ a row. P (callOf a row)) (record {
           refused = λ a row v l m. B .refused (callOf a row) v (omega arith) (omega arith);
           begins = λ e row. B .silent initiate started refl refl;
-          row = λ n i row R. B .row x i row;
+          row = λ n detail row R. B .row x detail row;
           ends = λ e row. let q = eq-eqb (s .phase) started e in B .silent terminate idle (rw q refl) (rw q refl);
           last = λ e row. B .last x e;
         }) a row)
@@ -69,5 +69,5 @@ module _ (d : List ℕ) (s : State) (out : List ℕ) where
 
     pub each-call : (c : Call) → P c (answer d s c out)
     each-call initiate = asked Initiate []
-    each-call (generate i row) = asked (Generate i) row
+    each-call (generate detail row) = asked (Generate detail) row
     each-call terminate = asked Terminate []

@@ -18,6 +18,7 @@ use Rattle.description.specs.Check.{checked}
 use Rattle.accepted.specs.Accepted as facts
 use Rattle.accepted.proofs.Accept.{accepted}
 use Rattle.sums.specs.Sums.{sumsOk}
+use Rattle.amounts.proofs.Good.{zeros-good}
 use Rattle.pagination.specs.All.{All}
 use Rattle.state_rules.proofs.States.{idle-facts, started-facts, running-facts, by-phase}
 use Rattle.state.specs.declared.State.{State}
@@ -26,7 +27,6 @@ use Rattle.state.specs.State.{freshAt}
 use Rattle.answer.specs.Result.{Result}
 use Rattle.calls.specs.declared.Asked.the-variants.{Initiate, Generate, Terminate}
 use Rattle.work.specs.Facts.{Stands}
-use Rattle.work.proofs.Ready.{zeros-good}
 use Rattle.every_call.proofs.Rules.{fresh-stands, call-stands}
 use Rattle.report.specs.Calls as calls
 use Rattle.state_bytes.specs.Bytes.{bytesOf, stateOf}
@@ -108,7 +108,7 @@ module _ (d : List ℕ) where
     next-stands : (s : State) → Stands h t (literals d) s → (c : Call) (out : List ℕ) → Stands h t (literals d) (answer d s c out .answer .state)
     unfolding calls.call
     next-stands s S initiate out = rw a (call-stands h t (literals d) A s S out Initiate [])
-    next-stands s S (generate i row) out = rw a (call-stands h t (literals d) A s S out (Generate i) row)
+    next-stands s S (generate detail row) out = rw a (call-stands h t (literals d) A s S out (Generate detail) row)
     next-stands s S terminate out = rw a (call-stands h t (literals d) A s S out Terminate [])
 
     runs : (us : List Use) (s : State) → Stands h t (literals d) s → runBytes d (bytesOf s) us ≡ map (written d) (run d s us)

@@ -80,13 +80,13 @@ module _ (d : List ℕ) (s : State) (out : List ℕ) where
     settles : Whole c (settled h t s w out)
     settles = each-settled h t s w out (Whole c) (λ v l m. refused c v (omega arith) m) (λ o l q. done q)
 
-  row-works : checked d ≡ Accepted → (i : ℕ) (row : List ℕ) → Whole (generate i row) (settled h t s (rowWork h t (literals d) s i row) out)
-  row-works a i row =
-      let w = rowWork h t (literals d) s i row in
+  row-works : checked d ≡ Accepted → (detail : ℕ) (row : List ℕ) → Whole (generate detail row) (settled h t s (rowWork h t (literals d) s detail row) out)
+  row-works a detail row =
+      let w = rowWork h t (literals d) s detail row in
       let A = accepted d a in
       by-test (eqb (s .phase) started)
-      (λ e. settles (generate i row) w (rw e (first-shows h t (literals d) A s i row)) refl refl refl)
-      (λ e. settles (generate i row) w (rw e (later-shows h t (literals d) A s i row)) refl refl refl)
+      (λ e. settles (generate detail row) w (rw e (first-shows h t (literals d) A s detail row)) refl refl refl)
+      (λ e. settles (generate detail row) w (rw e (later-shows h t (literals d) A s detail row)) refl refl refl)
 
   last-works : checked d ≡ Accepted → s .phase ≡ running → Whole terminate (settled h t s (lastWork h t (literals d) s) out)
   last-works a e =

@@ -1,19 +1,24 @@
--- The paper's number and extra number for each answer of CHECK.
+-- The paper's number and extra number for each answer of CHECK, by the table of refusals.
 use Prim.Native.Nat.{ℕ, _≤_}
 use mathlib.Core.Path.{_≡_}
 use mathlib.Core.List.{List}
+use Rattle.verdict.specs.declared.Verdict.{Verdict}
+use Rattle.verdict.specs.declared.Verdict.the-variants as verdict
+use Rattle.verdict.specs.Verdict as table
 use Rattle.description.specs.Check.{checked}
 use Rattle.description.specs.declared.Checked.{Checked}
 use Rattle.description.specs.declared.Checked.the-variants.{Accepted, Broken}
 
--- "1 | description breaks a rule D1 to D8 | first broken rule, 1 to 8"; 0 where it is accepted
+-- its verdict: "1 | description breaks a rule D1 to D8 | first broken rule, 1 to 8"
+abbrev pub verdictOf : Checked → Verdict
+verdictOf Accepted = verdict.Accepted
+verdictOf (Broken k) = verdict.Description k
+
 abbrev pub number : Checked → ℕ
-number Accepted = 0
-number (Broken k) = 1
+number r = table.number (verdictOf r)
 
 abbrev pub extra : Checked → ℕ
-extra Accepted = 0
-extra (Broken k) = k
+extra r = table.extra (verdictOf r)
 
 -- "first broken rule, 1 to 8"
 abbrev pub RuleIn : Checked → Type 0

@@ -35,14 +35,14 @@ module _ (h : Head) (t lits : List ℕ) (s : State) (out : List ℕ) where
   pub state-refused : stateOk h t s ≡ false → (a : Asked) (row : List ℕ) → callOn h t lits s a row out ≡ refuse s out verdict.State
   unfolding callOn
   state-refused e Initiate row = rw e refl
-  state-refused e (Generate i) row = rw e refl
+  state-refused e (Generate detail) row = rw e refl
   state-refused e Terminate row = rw e refl
 
   -- what is to be shown of each branch
   pub record Branches (P : Asked → List ℕ → Result → Type 0) : Type 0 where
     pub refused : (a : Asked) (row : List ℕ) (v : Verdict) → 3 ≤ number v → number v ≤ 6 → P a row (refuse s out v)
     pub begins : s .phase ≡ idle → (row : List ℕ) → P Initiate row (begun out)
-    pub row : (s .phase ≡ idle → ⊥) → (i : ℕ) (row : List ℕ) → RowIn h t i row → P (Generate i) row (settled h t s (rowWork h t lits s i row) out)
+    pub row : (s .phase ≡ idle → ⊥) → (detail : ℕ) (row : List ℕ) → RowIn h t detail row → P (Generate detail) row (settled h t s (rowWork h t lits s detail row) out)
     pub ends : s .phase ≡ started → (row : List ℕ) → P Terminate row (ended out)
     pub last : s .phase ≡ running → (row : List ℕ) → P Terminate row (settled h t s (lastWork h t lits s) out)
 
@@ -58,23 +58,23 @@ module _ (h : Head) (t lits : List ℕ) (s : State) (out : List ℕ) where
         (by-test (eqb (s .phase) idle)
         (λ e. rw e (B .begins (eqb-true (s .phase) idle e) row))
         (λ e. rw e (B .refused Initiate row verdict.Phase (omega arith) (omega arith))))
-    each-call (Generate i) row =
+    each-call (Generate detail) row =
         rw rules
         (by-test (eqb (s .phase) idle)
-        (λ n. rw n (B .refused (Generate i) row verdict.Phase (omega arith) (omega arith)))
-        (λ n. by-test (ltb (theDetail h t i) (h .groups))
+        (λ n. rw n (B .refused (Generate detail) row verdict.Phase (omega arith) (omega arith)))
+        (λ n. by-test (ltb (theDetail h t detail) (h .groups))
         (λ g. by-test (eqb (length row) (h .reclen))
         (λ l. by-test (ltb (firstMalformed h t row) (h .fields))
-        (λ f. rw (n, g, l, f) (B .refused (Generate i) row (verdict.Field (firstMalformed h t row)) (omega arith) (omega arith)))
+        (λ f. rw (n, g, l, f) (B .refused (Generate detail) row (verdict.Field (firstMalformed h t row)) (omega arith) (omega arith)))
         (λ f. rw (n, g, l, f)
-        (B .row (eqb-false (s .phase) idle n) i row
+        (B .row (eqb-false (s .phase) idle n) detail row
         (record {
-          named = ltb-true (theDetail h t i) (h .groups) g;
+          named = ltb-true (theDetail h t detail) (h .groups) g;
           long = eqb-true (length row) (h .reclen) l;
           good = not-false (formed h t row) (sym (first-malformed h t row) ∙ f);
         }))))
-        (λ l. rw (n, g, l) (B .refused (Generate i) row verdict.Length (omega arith) (omega arith))))
-        (λ g. rw (n, g) (B .refused (Generate i) row verdict.Detail (omega arith) (omega arith)))))
+        (λ l. rw (n, g, l) (B .refused (Generate detail) row verdict.Length (omega arith) (omega arith))))
+        (λ g. rw (n, g) (B .refused (Generate detail) row verdict.Detail (omega arith) (omega arith)))))
     each-call Terminate row =
         rw rules
         (by-test (eqb (s .phase) idle)

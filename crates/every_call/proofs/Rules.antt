@@ -18,7 +18,7 @@ use Rattle.lookup.specs.Find.{theDetail, details}
 use Rattle.rows.specs.Fields.{formed}
 use Rattle.rows.specs.Breaks.{breakLevel}
 use Rattle.sums.proofs.Range.{getD-set}
-use Rattle.amounts.proofs.Good.{GoodSums, first-good, later-good, last-good}
+use Rattle.amounts.proofs.Good.{GoodSums, zeros-good, first-good, later-good, last-good}
 use Rattle.place.specs.Place.{lastPage}
 use Rattle.place.specs.Rules.{Running}
 use Rattle.shape.specs.Shape.{frameOf}
@@ -39,7 +39,7 @@ use Rattle.work.specs.Work.{Work, moved, settled}
 use Rattle.work.specs.Rows.{cleared, breaks, firstWork, laterWork, rowWork, lastWork}
 use Rattle.calls.specs.Calls.{callOn}
 use Rattle.work.specs.Facts.{Stands}
-use Rattle.work.proofs.Ready.{zeros-good, good-sums}
+use Rattle.work.proofs.Ready.{good-sums}
 use Rattle.every_call.proofs.Settles.{each-settled}
 use Rattle.every_call.proofs.Branches.{each-call}
 
@@ -69,16 +69,16 @@ module _ (h : Head) (t lits : List ℕ) (A : Accepted h t lits) where
   flags-set : FlagsIn (flagsSet (details h t))
   flags-set = record { long = length-flagsSet (details h t); end = flagsSet-beyond (details h t) }
 
-  flags-cleared : (i : ℕ) (flags : List Bool) → FlagsIn flags → FlagsIn (cleared h t i flags)
-  flags-cleared i flags f =
-      by-cond FlagsIn (eqb (lineCount h t (theDetail h t i)) 0) (λ e. f)
+  flags-cleared : (detail : ℕ) (flags : List Bool) → FlagsIn flags → FlagsIn (cleared h t detail flags)
+  flags-cleared detail flags f =
+      by-cond FlagsIn (eqb (lineCount h t (theDetail h t detail)) 0) (λ e. f)
       (λ e. record {
-        long = length-set flags i false ∙ f .long;
-        end = λ k l m. ⊎-elim (λ (q : getD (set flags i false) k false ≡ false). q) (λ (q : getD (set flags i false) k false ≡ getD flags k false). q ∙ f .end k l m) (getD-set flags i k false false);
+        long = length-set flags detail false ∙ f .long;
+        end = λ k l m. ⊎-elim (λ (q : getD (set flags detail false) k false ≡ false). q) (λ (q : getD (set flags detail false) k false ≡ getD flags k false). q ∙ f .end k l m) (getD-set flags detail k false false);
       })
 
-  row-kept : (i : ℕ) (row : List ℕ) → RowIn h t i row → KeptIn (paddedRow row)
-  row-kept i row R =
+  row-kept : (detail : ℕ) (row : List ℕ) → RowIn h t detail row → KeptIn (paddedRow row)
+  row-kept detail row R =
       let l = R .long in
       record {
         long = length-padded row (omega (arith, A .record256));
@@ -118,23 +118,23 @@ module _ (h : Head) (t lits : List ℕ) (A : Accepted h t lits) where
 
   module _ (s : State) (S : Stands h t lits s) where
     -- ---- the first row of a report
-    module _ (i : ℕ) (row : List ℕ) (R : RowIn h t i row) (e : s .phase ≡ started) where
+    module _ (detail : ℕ) (row : List ℕ) (R : RowIn h t detail row) (e : s .phase ≡ started) where
       fresh : s ≡ freshAt started
       fresh = started-facts h t s (S .sized) e (S .rules)
 
-      pub first-laid : (r : ℕ) → LaidRunning h t r (placeOf s) (firstWork h t lits s i row .laid)
+      pub first-laid : (r : ℕ) → LaidRunning h t r (placeOf s) (firstWork h t lits s detail row .laid)
       unfolding firstWork
-      first-laid r = first-placed h t r (A .pageFits) (theDetail h t i) (placeOf s) (λ p. detail-is h t i (R .named)) (ap (λ (x : State). x .page) fresh) (ap (λ (x : State). x .line) fresh)
+      first-laid r = first-placed h t r (A .pageFits) (theDetail h t detail) (placeOf s) (λ p. detail-is h t detail (R .named)) (ap (λ (x : State). x .page) fresh) (ap (λ (x : State). x .line) fresh)
 
-      pub first-stands : firstWork h t lits s i row .laid .to .page ≤ lastPage → Stands h t lits (moved (firstWork h t lits s i row) (firstWork h t lits s i row .laid .to))
+      pub first-stands : firstWork h t lits s detail row .laid .to .page ≤ lastPage → Stands h t lits (moved (firstWork h t lits s detail row) (firstWork h t lits s detail row .laid .to))
       unfolding firstWork
       first-stands =
-          leaves-running (firstWork h t lits s i row)
+          leaves-running (firstWork h t lits s detail row)
           (record {
             phase = refl;
-            sums = first-good h t (A .countersIn .few) (s .sums) (rw fresh (zeros-good (h .counters))) row i .sums;
-            flags = flags-cleared i (flagsSet (details h t)) flags-set;
-            kept = row-kept i row R;
+            sums = first-good h t (A .countersIn .few) (s .sums) (rw fresh (zeros-good (h .counters))) row detail .sums;
+            flags = flags-cleared detail (flagsSet (details h t)) flags-set;
+            kept = row-kept detail row R;
             place = first-laid 0 .running;
             page = omega (arith, first-laid 0 .pages, ap (λ (x : State). x .page) fresh);
           })
@@ -175,23 +175,23 @@ module _ (h : Head) (t lits : List ℕ) (A : Accepted h t lits) where
       }
 
       -- and a later row
-      module _ (i : ℕ) (row : List ℕ) (R : RowIn h t i row) where
+      module _ (detail : ℕ) (row : List ℕ) (R : RowIn h t detail row) where
         abbrev level : ℕ
         level = breakLevel h t (s .kept) row
 
-        pub later-laid : (r : ℕ) → LaidRunning h t r (placeOf s) (laterWork h t lits s i row .laid)
+        pub later-laid : (r : ℕ) → LaidRunning h t r (placeOf s) (laterWork h t lits s detail row .laid)
         unfolding laterWork
-        later-laid r = later-placed h t r (A .pageFits) level (theDetail h t i) (placeOf s) (λ p. detail-is h t i (R .named)) place
+        later-laid r = later-placed h t r (A .pageFits) level (theDetail h t detail) (placeOf s) (λ p. detail-is h t detail (R .named)) place
 
-        pub later-stands : laterWork h t lits s i row .laid .to .page ≤ lastPage → Stands h t lits (moved (laterWork h t lits s i row) (laterWork h t lits s i row .laid .to))
+        pub later-stands : laterWork h t lits s detail row .laid .to .page ≤ lastPage → Stands h t lits (moved (laterWork h t lits s detail row) (laterWork h t lits s detail row .laid .to))
         unfolding laterWork
         later-stands =
-            leaves-running (laterWork h t lits s i row)
+            leaves-running (laterWork h t lits s detail row)
             (record {
               phase = refl;
-              sums = later-good h t (A .countersIn .few) (s .sums) good row i level .sums;
-              flags = flags-cleared i _ (by-cond FlagsIn (breaks h level) (λ q. flags-set) (λ q. record { long = S .sized .flagsLong; end = facts .beyondFlags }));
-              kept = by-cond KeptIn (breaks h level) (λ q. row-kept i row R) (λ q. record { long = S .sized .keptLong; good = facts .formed; end = facts .beyondRow });
+              sums = later-good h t (A .countersIn .few) (s .sums) good row detail level .sums;
+              flags = flags-cleared detail _ (by-cond FlagsIn (breaks h level) (λ q. flags-set) (λ q. record { long = S .sized .flagsLong; end = facts .beyondFlags }));
+              kept = by-cond KeptIn (breaks h level) (λ q. row-kept detail row R) (λ q. record { long = S .sized .keptLong; good = facts .formed; end = facts .beyondRow });
               place = later-laid 0 .running;
               page = omega (arith, later-laid 0 .pages, facts .first);
             })
@@ -201,11 +201,11 @@ module _ (h : Head) (t lits : List ℕ) (A : Accepted h t lits) where
     settled-stands : (w : Work) → (w .laid .to .page ≤ lastPage → Stands h t lits (moved w (w .laid .to))) → Stands h t lits (settled h t s w out .answer .state)
     settled-stands w f = each-settled h t s w out (λ r. Stands h t lits (r .answer .state)) (λ v l m. S) (λ o l q. f l)
 
-    row-stands : (s .phase ≡ idle → ⊥) → (i : ℕ) (row : List ℕ) → RowIn h t i row → Stands h t lits (settled h t s (rowWork h t lits s i row) out .answer .state)
-    row-stands n i row R =
+    row-stands : (s .phase ≡ idle → ⊥) → (detail : ℕ) (row : List ℕ) → RowIn h t detail row → Stands h t lits (settled h t s (rowWork h t lits s detail row) out .answer .state)
+    row-stands n detail row R =
         by-test (eqb (s .phase) started)
-        (λ e. rw e (settled-stands (firstWork h t lits s i row) (first-stands s S i row R (eqb-true (s .phase) started e))))
-        (λ e. rw e (settled-stands (laterWork h t lits s i row) (later-stands s S (by-phase h t s (S .rules) (λ q. absurd (n q)) (λ q. absurd (eqb-false (s .phase) started e q)) (λ q. q)) i row R)))
+        (λ e. rw e (settled-stands (firstWork h t lits s detail row) (first-stands s S detail row R (eqb-true (s .phase) started e))))
+        (λ e. rw e (settled-stands (laterWork h t lits s detail row) (later-stands s S (by-phase h t s (S .rules) (λ q. absurd (n q)) (λ q. absurd (eqb-false (s .phase) started e q)) (λ q. q)) detail row R)))
 
     pub call-stands : (a : Asked) (row : List ℕ) → Stands h t lits (callOn h t lits s a row out .answer .state)
     call-stands = each-call h t lits s out (S .rules) (λ a row r. Stands h t lits (r .answer .state)) (record {

@@ -18,13 +18,13 @@ pub record Shows (h : Head) (t : List ℕ) (w : Work) : Type 0 where
   pub groups : GroupsIn h (w .laid .dues)
 
 module _ (h : Head) (t lits : List ℕ) (A : Accepted h t lits) (s : State) where
-  pub first-shows : (i : ℕ) (row : List ℕ) → Shows h t (firstWork h t lits s i row)
+  pub first-shows : (detail : ℕ) (row : List ℕ) → Shows h t (firstWork h t lits s detail row)
   unfolding firstWork
-  first-shows i row = record { items = A .itemsIn; plain = refl; groups = in-layout h t _ _ }
+  first-shows detail row = record { items = A .itemsIn; plain = refl; groups = in-layout h t _ _ }
 
-  pub later-shows : (i : ℕ) (row : List ℕ) → Shows h t (laterWork h t lits s i row)
+  pub later-shows : (detail : ℕ) (row : List ℕ) → Shows h t (laterWork h t lits s detail row)
   unfolding laterWork
-  later-shows i row = record { items = A .itemsIn; plain = refl; groups = in-layout h t _ _ }
+  later-shows detail row = record { items = A .itemsIn; plain = refl; groups = in-layout h t _ _ }
 
   pub last-shows : Shows h t (lastWork h t lits s)
   unfolding lastWork

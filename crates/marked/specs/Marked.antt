@@ -19,9 +19,9 @@ use Rattle.marked.specs.Described.{description}
 abbrev pub seenAt : ℕ → Pos
 seenAt line = record { page = 1; spot = record { line = line; seen = true; saved = 0 } }
 
--- the turn of detail d; of the control footing of level b, at a break there
+-- the turn of detail n; of the control footing of level b, at a break there
 abbrev pub detailTurn : Head → List ℕ → ℕ → Turn
-detailTurn h t d = detail (theDetail h t d)
+detailTurn h t n = detail (theDetail h t n)
 
 abbrev pub footingTurn : Head → List ℕ → ℕ → Turn
 footingTurn h t b = footing h t b 0

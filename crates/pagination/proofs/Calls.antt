@@ -219,8 +219,8 @@ module _ (h : Head) (t : List ℕ) (r : ℕ) (fits : PageFits h t) where
       }
 
 -- a detail found by its number is a detail
-pub detail-is : (h : Head) (t : List ℕ) (n : ℕ) → theDetail h t n < h .groups → typeOf h t (theDetail h t n) ≡ 3
+pub detail-is : (h : Head) (t : List ℕ) (detail : ℕ) → theDetail h t detail < h .groups → typeOf h t (theDetail h t detail) ≡ 3
 unfolding theDetail
-detail-is h t n l =
-    let i = firstBelow (h .groups) (isDetail h t n) in
-    eqb-true _ _ (and-l (eqb (typeOf h t i) 3) (eqb (sumBelow i (detailBit h t)) n) (first-at (isDetail h t n) (h .groups) l))
+detail-is h t detail l =
+    let i = firstBelow (h .groups) (isDetail h t detail) in
+    eqb-true _ _ (and-l (eqb (typeOf h t i) 3) (eqb (sumBelow i (detailBit h t)) detail) (first-at (isDetail h t detail) (h .groups) l))

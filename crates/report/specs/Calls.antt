@@ -26,7 +26,7 @@ abbrev pub initiate : List ℕ → State → List ℕ → Result
 initiate d s out = call d s Initiate [] out
 
 abbrev pub generate : List ℕ → State → ℕ → List ℕ → List ℕ → Result
-generate d s i row out = call d s (Generate i) row out
+generate d s detail row out = call d s (Generate detail) row out
 
 abbrev pub terminate : List ℕ → State → List ℕ → Result
 terminate d s out = call d s Terminate [] out

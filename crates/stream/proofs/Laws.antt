@@ -67,13 +67,13 @@ accepted-fits : (k : Checked) (s : State) (o : List ℕ) (r : Result) → Fits o
 accepted-fits checked.Accepted s o r f = f
 accepted-fits (checked.Broken n) s o r f = refuse-fits s o (Description n)
 
-pub generate-fits : (d : List ℕ) (s : State) (i : ℕ) (row o : List ℕ) → Fits o (generate d s i row o)
+pub generate-fits : (d : List ℕ) (s : State) (detail : ℕ) (row o : List ℕ) → Fits o (generate d s detail row o)
 unfolding call callOn
-generate-fits d s i row o =
+generate-fits d s detail row o =
     let h = headOf d in
     let t = table d in
     accepted-fits (check.checked d) s o _
-    (unless-fits s o _ (rowTried h t s i row) (settled-fits h t s (rowWork h t (literals d) s i row) o))
+    (unless-fits s o _ (rowTried h t s detail row) (settled-fits h t s (rowWork h t (literals d) s detail row) o))
 
 -- ---- the run
 stays : (d rows : List ℕ) (size : ℕ) (x : Ran) (n : ℕ) → goes rows size x ≡ false → ran d rows size n x ≡ x

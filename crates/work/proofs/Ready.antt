@@ -1,23 +1,22 @@
 -- From an accepted description, a state that keeps its rules and a row that passed its tests, to what each part of the work asks.
 -- Assumes nothing.
-use Prim.Native.Nat.{ℕ, zero, suc, _≤_, _<_}
-use mathlib.Core.Path.{_≡_, refl, ap}
+use Prim.Native.Nat.{ℕ, _≤_, _<_}
+use mathlib.Core.Path.{_≡_, ap}
 use mathlib.Core.Bool.{Bool, true, false}
 use mathlib.Core.List.{List}
 use native.Mathlib.Omega.{arith}
 use borrow.Author.Tests.{ltb-true, ltb-false}
 use lib.Dec.{ltb}
-use Rattle.counts.specs.Below.{allBelow}
 use Rattle.counts.proofs.Laws.{by-test}
 use lib.IntN.{ℤ, pos}
-use lib.ListN.{length, getD, replicate, length-replicate, List·getD-eq-default}
+use lib.ListN.{length, List·getD-eq-default}
 use Rattle.tables.specs.declared.Head.{Head}
 use Rattle.lookup.specs.Find.{theDetail}
 use Rattle.rows.specs.Facts.{Formed, Comparable}
 use Rattle.sums.specs.Sums.{sumsOk}
 use Rattle.sums.specs.Facts.{CountersIn, Adding}
 use Rattle.amounts.specs.Totals.{fresh, totalsFirst, totalsLater, totalsLast}
-use Rattle.amounts.proofs.Good.{GoodSums, first-good, later-good, last-good}
+use Rattle.amounts.proofs.Good.{GoodSums, zeros-good, first-good, later-good, last-good}
 use Rattle.place.specs.Place.{lastPage}
 use Rattle.printed.specs.Printed.{noPrefix}
 use Rattle.printed.proofs.Laws.{no-prefix-short}
@@ -39,16 +38,6 @@ use Rattle.accepted.proofs.Index.{detail-counted}
 use Rattle.refusals.specs.Facts.{RowIn}
 use Rattle.answer.specs.Result.{placeOf}
 use Rattle.work.specs.Facts.{Stands}
-
-zeros-at : (n i : ℕ) → getD (replicate n (pos 0)) i (pos 0) ≡ pos 0
-zeros-at zero i = refl
-zeros-at (suc n) zero = refl
-zeros-at (suc n) (suc i) = zeros-at n i
-
--- sums that are all 0
-pub zeros-good : (n : ℕ) → GoodSums n (replicate sumCount (pos 0))
-unfolding sumsOk allBelow
-zeros-good n = record { range = refl; long = length-replicate sumCount (pos 0); beyond = λ i m. zeros-at sumCount i }
 
 module _ {h : Head} {t lits : List ℕ} (A : Accepted h t lits) where
   called : {p : Plan} {s : Pos} → Planned h p → s .page ≤ lastPage → Called h t p s

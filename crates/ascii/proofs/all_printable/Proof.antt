@@ -1,12 +1,12 @@
 -- `ascii::all_printable` meets its contract. The invariant: the flag is the test of every byte passed.
 -- Assumes nothing.
 use Prim.Native.Nat.{_≤_, _<_, _-_}
-use mathlib.Core.Path.{_≡_, sym}
+use mathlib.Core.Path.{_≡_, refl, sym}
 use native.Mathlib.Omega.{arith}
 use borrow.Author.Needs.{needs}
 use lib.ListN.{length}
 use Rattle.counts.specs.Below.{allBelow}
-use Rattle.counts.proofs.Laws.{all-next}
+use Rattle.counts.proofs.Laws.{all-start, all-step, all-end}
 use Rattle.ascii.specs.Printable.{printableAt, allPrintable}
 use Rattle.ascii.proofs.Laws.{too-short}
 use Rattle.ascii.proofs.all_printable.Statement.{statement}
@@ -24,21 +24,7 @@ returns c =
     let l : length (a .s .now) < a .n = omega arith in
     sym (too-short (a .n) (a .s .now) l)
 
-loop-holds : tie.Need-loop-holds Inv-loop μ-loop
-unfolding allBelow
-loop-holds c = search needs
-
-loop-again : tie.Need-loop-again Inv-loop μ-loop
-loop-again c =
-    let b = c .before .before .before in
-    (omega arith, all-next (printableAt (b .before .before .before .args .s .now)) _ (b .loop .inv .1) (c .printable .ensures))
-
-returns-2 : tie.Need-returns-2 Inv-loop μ-loop
-returns-2 c =
-    let e : c .before .loop .i ≡ c .before .before .before .before .args .n = omega arith in
-    rw (c .before .loop .inv .1, e)
-
 pub all-printable-spec : {M : Type 1} → statement M
 all-printable-spec =
     tie.close
-    (tie.spec Inv-loop μ-loop returns loop-holds (λ c. omega arith) (λ c κs. search needs) (λ c. omega arith) (λ c. omega arith) loop-again returns-2)
+    (tie.spec Inv-loop μ-loop returns (λ c. all-start _ _) (λ c. omega arith) (λ c κs. search needs) (λ c. omega arith) (λ c. omega arith) (λ c. all-step (printableAt (c .before .before .before .before .before .before .args .s .now)) (c .before .before .before .loop .inv) (c .before .before .loop-test .taken) (c .printable .ensures)) (λ c. all-end _ (c .before .loop .inv) (c .loop-test .left) refl))

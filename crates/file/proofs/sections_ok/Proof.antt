@@ -5,7 +5,7 @@ use mathlib.Core.Path.{_≡_}
 use native.Mathlib.Omega.{arith}
 use borrow.Author.Needs.{needs}
 use Rattle.counts.specs.Below.{allBelow}
-use Rattle.counts.proofs.Laws.{all-next}
+use Rattle.counts.proofs.Laws.{all-start, all-step, all-end}
 use Rattle.file.specs.Sections.{sectionOk}
 use Rattle.file.proofs.sections_ok.Statement.{statement}
 use Rattle.file.proofs.sections_ok.Tie as tie
@@ -16,16 +16,7 @@ Inv-loop d n ok₀ k₀ ok k = (k ≤ n) × (ok ≡ allBelow k (sectionOk d))
 abbrev μ-loop : tie.MeasureT-loop
 μ-loop d n ok₀ k₀ ok k = n - k
 
-loop-holds : tie.Need-loop-holds Inv-loop μ-loop
-unfolding allBelow
-loop-holds c = search needs
-
-returns : tie.Need-returns Inv-loop μ-loop
-returns c =
-    let e : c .before .loop .k ≡ 8 = omega arith in
-    rw (c .before .loop .inv .1, e)
-
 pub sections-ok-spec : {M : Type 1} → statement M
 sections-ok-spec =
     tie.close
-    (tie.spec Inv-loop μ-loop (λ c κs. search needs) (λ c κs. search needs) loop-holds (λ c κs. omega arith) (λ c. omega arith) (λ c. omega arith) (λ c. (omega arith, all-next _ _ (c .before .before .loop .inv .1) (c .section-ok .ensures))) returns)
+    (tie.spec Inv-loop μ-loop (λ c κs. search needs) (λ c κs. search needs) (λ c. all-start _ _) (λ c κs. omega arith) (λ c. omega arith) (λ c. omega arith) (λ c. all-step _ (c .before .before .loop .inv) (c .before .loop-test .taken) (c .section-ok .ensures)) (λ c. all-end _ (c .before .loop .inv) (c .loop-test .left) (c .before .before .section-count .ensures)))

@@ -5,7 +5,7 @@ use mathlib.Core.Path.{_≡_}
 use native.Mathlib.Omega.{arith}
 use borrow.Author.Needs.{needs}
 use Rattle.counts.specs.Below.{allBelow}
-use Rattle.counts.proofs.Laws.{all-next}
+use Rattle.counts.proofs.Laws.{all-start, all-step, all-end}
 use Rattle.lines.specs.Lines.{laterOk}
 use Rattle.lines.proofs.later_ok.Statement.{statement}
 use Rattle.lines.proofs.later_ok.Tie as tie
@@ -16,16 +16,7 @@ Inv-loop t h i n second ok₀ k₀ ok k = (k ≤ n) × (ok ≡ allBelow k (later
 abbrev μ-loop : tie.MeasureT-loop
 μ-loop t h i n second ok₀ k₀ ok k = n - k
 
-loop-holds : tie.Need-loop-holds Inv-loop μ-loop
-unfolding allBelow
-loop-holds c = search needs
-
-returns : tie.Need-returns Inv-loop μ-loop
-returns c =
-    let e : c .before .loop .k ≡ c .before .before .before .later-of .result = omega arith in
-    rw (c .before .loop .inv .1, e, c .before .before .before .later-of .ensures .is)
-
 pub later-ok-spec : {M : Type 1} → statement M
 later-ok-spec =
     tie.close
-    (tie.spec Inv-loop μ-loop (λ c κs. omega arith) (λ c κs. omega arith) (λ c. omega arith) loop-holds (λ c. omega arith) (λ c κs. omega arith) (λ c. omega arith) (λ c. omega arith) (λ c. (omega arith, all-next _ _ (c .before .before .loop .inv .1) (rw (c .step-ok .ensures, c .before .before .before .group-num .ensures .is)))) returns)
+    (tie.spec Inv-loop μ-loop (λ c κs. omega arith) (λ c κs. omega arith) (λ c. omega arith) (λ c. all-start _ _) (λ c. omega arith) (λ c κs. omega arith) (λ c. omega arith) (λ c. omega arith) (λ c. all-step _ (c .before .before .loop .inv) (c .before .loop-test .taken) (rw (c .step-ok .ensures, c .before .before .before .group-num .ensures .is))) (λ c. all-end _ (c .before .loop .inv) (c .loop-test .left) (c .before .before .before .later-of .ensures .is)))

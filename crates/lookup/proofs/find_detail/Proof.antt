@@ -1,13 +1,13 @@
 -- `lookup::find_detail` meets its contract. The invariant: no group passed is the detail, and the details among them.
 -- Assumes nothing.
 use Prim.Native.Nat.{_≤_, _-_}
-use mathlib.Core.Path.{_≡_, _∙_}
+use mathlib.Core.Path.{_≡_}
 use mathlib.Core.Bool.{_&&_}
 use lib.Dec.{eqb}
 use native.Mathlib.Omega.{arith}
 use borrow.Author.Needs.{needs}
 use Rattle.counts.specs.Below.{firstBelow, sumBelow}
-use Rattle.counts.proofs.Laws.{first-next, first-found, sum-next}
+use Rattle.counts.proofs.Laws.{first-next, first-found, search-end, sum-next}
 use Rattle.lookup.specs.Find.{isDetail, detailBit, theDetail}
 use Rattle.lookup.proofs.find_detail.Statement.{statement}
 use Rattle.lookup.proofs.find_detail.Tie as tie
@@ -23,34 +23,32 @@ loop-holds : tie.Need-loop-holds Inv-loop μ-loop
 unfolding firstBelow sumBelow
 loop-holds c = search needs
 
+-- the test that the code makes of a group
+this : (c : tie.After-group-num Inv-loop μ-loop) →
+    let l = c .before .before in
+    let a = l .before .before .before .args in
+    (eqb (c .group-num .result) 3 && eqb (l .loop .found) (a .detail)) ≡ isDetail (a .h) (a .t .now) (a .detail) (l .loop .i)
+this c = rw (c .group-num .ensures .is, c .before .before .loop .inv .1 .1 .0)
+
 loop-again : tie.Need-loop-again Inv-loop μ-loop
 loop-again c =
-    let b = c .before .before .before .before in
-    let a = b .before .before .before .args in
-    let v = b .loop .inv in
-    let q : (eqb (c .before .before .group-num .result) 3 && eqb (b .loop .found) (a .detail)) ≡ isDetail (a .h) (a .t .now) (a .detail) (b .loop .i) =
-    rw (c .before .before .group-num .ensures .is, b .loop .inv .1 .1 .0)
-    in
-    (omega arith, (first-next (isDetail (a .h) (a .t .now) (a .detail)) _ (v .1 .0) q (c .before .if1 .left), (sum-next _ _ (v .1 .1 .0) (rw (c .one-if .ensures .0, c .before .before .group-num .ensures .is)), omega arith)))
-
-returns : tie.Need-returns Inv-loop μ-loop
-unfolding theDetail
-returns c =
-    let e : c .before .loop .i ≡ c .before .before .wide .result = omega arith in
-    let w = e ∙ c .before .before .wide .ensures .is in
-    (rw w (rw w at (c .before .loop .inv .1 .0)), omega arith)
-
-returns-2 : tie.Need-returns-2 Inv-loop μ-loop
-unfolding theDetail
-returns-2 c =
-    let b = c .before .before .before in
-    let a = b .before .before .before .args in
-    let q : (eqb (c .before .group-num .result) 3 && eqb (b .loop .found) (a .detail)) ≡ isDetail (a .h) (a .t .now) (a .detail) (b .loop .i) =
-    rw (c .before .group-num .ensures .is, b .loop .inv .1 .1 .0)
-    in
-    (first-found (isDetail (a .h) (a .t .now) (a .detail)) (c .before .before .loop-test .taken) (b .before .wide .ensures .is) (b .loop .inv .1 .0) q (c .if1 .taken), omega arith)
+    let v = c .before .before .before .before .loop .inv in
+    (omega arith, (first-next _ _ (v .1 .0) (this (c .before .before)) (c .before .if1 .left), (sum-next _ _ (v .1 .1 .0) (rw (c .one-if .ensures .0, c .before .before .group-num .ensures .is)), omega arith)))
 
 pub find-detail-spec : {M : Type 1} → statement M
+unfolding theDetail
 find-detail-spec =
     tie.close
-    (tie.spec Inv-loop μ-loop (λ c κs. search needs) loop-holds (λ c κs. omega arith) (λ c κs. search needs) (λ c. omega arith) (λ c. omega arith) (λ c. omega arith) loop-again returns returns-2)
+    (tie.spec
+    Inv-loop
+    μ-loop
+    (λ c κs. search needs)
+    loop-holds
+    (λ c κs. omega arith)
+    (λ c κs. search needs)
+    (λ c. omega arith)
+    (λ c. omega arith)
+    (λ c. omega arith)
+    loop-again
+    (λ c. let l = c .before .loop .inv in (search-end _ (l .0, l .1 .0) (c .loop-test .left) (c .before .before .wide .ensures .is), omega arith))
+    (λ c. let b = c .before .before .before in (first-found _ (c .before .before .loop-test .taken) (b .before .wide .ensures .is) (b .loop .inv .1 .0) (this (c .before)) (c .if1 .taken), omega arith)))

@@ -1,7 +1,7 @@
 -- `state_rules::sums_ok` meets its contract. The invariant: every sum passed is in range.
 -- Assumes nothing.
 use Prim.Native.Nat.{_≤_, _-_}
-use mathlib.Core.Path.{_≡_, ap, _∙_}
+use mathlib.Core.Path.{_≡_, refl, ap, _∙_}
 use native.Mathlib.Omega.{arith}
 use borrow.Author.Needs.{needs}
 use lib.IntN.{pos}
@@ -9,7 +9,7 @@ use lib.ListN.{getD}
 use mir.Syntax.{w64}
 use mir.ValLaws.{toZ-ofZ}
 use Rattle.counts.specs.Below.{allBelow}
-use Rattle.counts.proofs.Laws.{all-next}
+use Rattle.counts.proofs.Laws.{all-start, all-step, all-end}
 use Rattle.sums.specs.Sums.{inRange, sumOk, sumsOk}
 use Rattle.state.specs.State.{sumCount}
 use Rattle.state_rules.proofs.sums_ok.Statement.{statement}
@@ -21,34 +21,18 @@ Inv-loop sums ok₀ i₀ ok i = (i ≤ sumCount) × (ok ≡ allBelow i (sumOk su
 abbrev μ-loop : tie.MeasureT-loop
 μ-loop sums ok₀ i₀ ok i = sumCount - i
 
-loop-holds : tie.Need-loop-holds Inv-loop μ-loop
-unfolding allBelow
-loop-holds c = search needs
-
-loop-again : tie.Need-loop-again Inv-loop μ-loop
-loop-again c =
-    let l = c .before .before .before in
-    let s = l .before .args .sums .now in
-    let e = ap inRange (toZ-ofZ w64 (getD s (l .loop .i) (pos 0)) (record { sfits = c .before .within-arg .given })) in
-    (omega arith, all-next (sumOk s) _ (l .loop .inv .1) (c .within .ensures ∙ e))
-
-returns : tie.Need-returns Inv-loop μ-loop
-unfolding sumsOk
-returns c =
-    let e : c .before .loop .i ≡ sumCount = omega arith in
-    rw (c .before .loop .inv .1, e)
-
 pub sums-ok-spec : {M : Type 1} → statement M
+unfolding sumsOk
 sums-ok-spec =
     tie.close
     (tie.spec
     Inv-loop
     μ-loop
-    loop-holds
+    (λ c. all-start _ _)
     (λ c. search needs)
     (λ c. search needs)
     (λ c κs. search needs)
     (λ c. omega arith)
     (λ c. omega arith)
-    loop-again
-    returns)
+    (λ c. let l = c .before .before .before in all-step _ (l .loop .inv) (c .before .before .loop-test .taken) (c .within .ensures ∙ ap inRange (toZ-ofZ w64 (getD (l .before .args .sums .now) (l .loop .i) (pos 0)) (record { sfits = c .before .within-arg .given }))))
+    (λ c. all-end _ (c .before .loop .inv) (c .loop-test .left) refl))

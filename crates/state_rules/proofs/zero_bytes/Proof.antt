@@ -21,9 +21,9 @@ zero-bytes-spec =
     (tie.spec
     Inv-loop
     μ-loop
-    (λ c. tested-start (zeroByte (c .args .kept .now)))
+    (λ c. tested-start _)
     (λ c. omega arith)
     (λ c. omega arith)
     (λ c. omega arith)
-    (λ c. tested-next (zeroByte (c .before .before .before .args .kept .now)) (c .before .before .loop .inv) (c .before .loop-test .taken) refl)
-    (λ c. tested-end (zeroByte (c .before .before .args .kept .now)) (c .before .loop .inv) (c .loop-test .left)))
+    (λ c. tested-next _ (c .before .before .loop .inv) (c .before .loop-test .taken) refl)
+    (λ c. tested-end _ (c .before .loop .inv) (c .loop-test .left)))

@@ -22,9 +22,9 @@ zero-flags-spec =
     (tie.spec
     Inv-loop
     μ-loop
-    (λ c. tested-start (zeroFlag (c .args .t2)))
+    (λ c. tested-start _)
     (λ c. search needs)
     (λ c. omega arith)
     (λ c. omega arith)
-    (λ c. tested-next (zeroFlag (c .before .before .args .t2)) (c .before .loop .inv) (omega arith) refl)
-    (λ c. tested-end (zeroFlag (c .before .before .args .t2)) (c .before .loop .inv) (c .loop-test .left)))
+    (λ c. tested-next _ (c .before .loop .inv) (omega arith) refl)
+    (λ c. tested-end _ (c .before .loop .inv) (c .loop-test .left)))

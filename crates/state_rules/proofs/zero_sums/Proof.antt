@@ -18,22 +18,16 @@ Inv-loop from sums ok₀ i₀ ok i = Tested from sumCount (zeroSum sums) ok i
 abbrev μ-loop : tie.MeasureT-loop
 μ-loop from sums ok₀ i₀ ok i = sumCount - i
 
-loop-again : tie.Need-loop-again Inv-loop μ-loop
-loop-again c =
-    let l = c .before .before in
-    let s = l .before .args .sums .now in
-    tested-next (zeroSum s) (l .loop .inv) (c .before .loop-test .taken) (zero-bits (getD s (l .loop .i) (pos 0)) (record { sfits = c .this .given }))
-
 pub zero-sums-spec : {M : Type 1} → statement M
 zero-sums-spec =
     tie.close
     (tie.spec
     Inv-loop
     μ-loop
-    (λ c. tested-start (zeroSum (c .args .sums .now)))
+    (λ c. tested-start _)
     (λ c. search needs)
     (λ c. search needs)
     (λ c. omega arith)
     (λ c. omega arith)
-    loop-again
-    (λ c. tested-end (zeroSum (c .before .before .args .sums .now)) (c .before .loop .inv) (c .loop-test .left)))
+    (λ c. let l = c .before .before in tested-next _ (l .loop .inv) (c .before .loop-test .taken) (zero-bits (getD (l .before .args .sums .now) (l .loop .i) (pos 0)) (record { sfits = c .this .given })))
+    (λ c. tested-end _ (c .before .loop .inv) (c .loop-test .left)))
