@@ -5,7 +5,6 @@ use mathlib.Core.Path.{_≡_, refl, sym}
 use native.Mathlib.Omega.{arith}
 use borrow.Author.Needs.{needs}
 use lib.ListN.{length}
-use Rattle.counts.specs.Below.{allBelow}
 use Rattle.counts.proofs.Laws.{all-start, all-step, all-end}
 use Rattle.ascii.specs.Printable.{printableAt, allPrintable}
 use Rattle.ascii.proofs.Laws.{too-short}

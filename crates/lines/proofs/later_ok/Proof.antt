@@ -3,7 +3,6 @@
 use Prim.Native.Nat.{_≤_, _-_}
 use mathlib.Core.Path.{_≡_}
 use native.Mathlib.Omega.{arith}
-use borrow.Author.Needs.{needs}
 use Rattle.counts.specs.Below.{allBelow}
 use Rattle.counts.proofs.Laws.{all-start, all-step, all-end}
 use Rattle.lines.specs.Lines.{laterOk}
