@@ -5,9 +5,8 @@ use mathlib.Core.Bool.{Bool}
 use mathlib.Core.List.{List}
 use lib.IntN.{ℤ}
 use Rattle.layout.specs.declared.Pos.{Pos}
-use Rattle.pages.specs.declared.Outcome.{Outcome}
-use Rattle.pages.specs.declared.Outcome.the-variants.{Done, PageLimit, NoRoom}
-use Rattle.pages.specs.Outcome.{written}
+use Rattle.answer.specs.declared.Outcome.{Outcome}
+use Rattle.answer.specs.declared.Outcome.the-variants.{Done, PageLimit, NoRoom}
 use Rattle.state.specs.declared.State.{State}
 use Rattle.verdict.specs.declared.Verdict.{Verdict}
 use Rattle.verdict.specs.declared.Verdict.the-variants.{Accepted, Pages, Room}

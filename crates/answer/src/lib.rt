@@ -1,11 +1,17 @@
-// What a call returns: a refusal with the state handed in, or acceptance with the next state.
+// What the printing of a call came to, and what the call returns: a refusal with the state handed in, or acceptance with the next state.
 ghost use mathlib.Core.Path.{_≡_};
 ghost use Rattle.answer.specs.Result.{placeOf, refusal as refusalSpec, accepted as acceptedSpec, at, answered};
 use layout::Pos;
-use pages::Outcome;
 use place::Spot;
 use state::State;
 use verdict::Verdict;
+
+// What the printing came to: the bytes written and the next place, or refusal 8 or 9.
+pub enum Outcome {
+    Done(usize, Pos),
+    PageLimit,
+    NoRoom,
+}
 
 // The verdict, the count of bytes written, and the next state; the state handed in where refused.
 pub struct Answer {

@@ -25,14 +25,14 @@ use Rattle.pagination.proofs.Groups.{sound-none}
 use Rattle.state.specs.declared.State.{State}
 use Rattle.state.specs.State.{idle, started, running, freshAt}
 use Rattle.state_rules.proofs.States.{idle-facts, started-facts, by-phase}
-use Rattle.state.specs.Kept.{paddedRow}
+use Rattle.state.specs.Kept.{paddedRow, breaks}
 use Rattle.state.proofs.Kept.{padded-controls}
 use Rattle.refusals.specs.Facts.{RowIn}
 use Rattle.calls.specs.declared.Asked.{Asked}
 use Rattle.calls.specs.declared.Asked.the-variants.{Initiate, Generate, Terminate}
 use Rattle.answer.specs.Result.{placeOf}
 use Rattle.work.specs.Work.{Work, moved, settled}
-use Rattle.work.specs.Rows.{firstWork, breaks, laterWork, rowWork, lastWork}
+use Rattle.work.specs.Rows.{firstWork, laterWork, rowWork, lastWork}
 use Rattle.calls.specs.Calls.{begun, ended}
 use Rattle.work.specs.Facts.{Stands}
 use Rattle.every_call.proofs.Branches.{each-call}

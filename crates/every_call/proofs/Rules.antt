@@ -27,7 +27,7 @@ use Rattle.pagination.proofs.Calls.{first-placed, later-placed, last-placed, de
 use Rattle.accepted.specs.Accepted.{Accepted}
 use Rattle.state.specs.declared.State.{State}
 use Rattle.state.specs.State.{idle, started, running, flagCount, keptSize, sumCount, freshAt}
-use Rattle.state.specs.Kept.{paddedRow, flagsSet}
+use Rattle.state.specs.Kept.{paddedRow, flagsSet, cleared, breaks}
 use Rattle.state_rules.specs.Facts.{PageIn, RunningState}
 use Rattle.state.specs.State.{Sized}
 use Rattle.state_rules.proofs.States.{idle-ok, fresh-ok, started-facts, started-ok, running-facts, running-ok, by-phase}
@@ -36,7 +36,7 @@ use Rattle.refusals.specs.Facts.{RowIn}
 use Rattle.calls.specs.declared.Asked.{Asked}
 use Rattle.answer.specs.Result.{placeOf}
 use Rattle.work.specs.Work.{Work, moved, settled}
-use Rattle.work.specs.Rows.{cleared, breaks, firstWork, laterWork, rowWork, lastWork}
+use Rattle.work.specs.Rows.{firstWork, laterWork, rowWork, lastWork}
 use Rattle.calls.specs.Calls.{callOn}
 use Rattle.work.specs.Facts.{Stands}
 use Rattle.work.proofs.Ready.{good-sums}

@@ -18,7 +18,7 @@ use Rattle.measure.specs.Measure.{measured}
 use Rattle.due_text.specs.Bytes.{Reading, dueBytes, byteCount}
 use Rattle.due_text.specs.Facts.{Printable, Room}
 use Rattle.due_text.proofs.Bytes.{in-layout, length-dueBytes}
-use Rattle.pages.specs.declared.Outcome.the-variants.{Done, PageLimit, NoRoom}
+use Rattle.answer.specs.declared.Outcome.the-variants.{Done, PageLimit, NoRoom}
 use Rattle.pages.specs.Outcome.{outcome, written}
 use Rattle.pages.specs.Facts.{Answered}
 

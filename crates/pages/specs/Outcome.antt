@@ -10,8 +10,8 @@ use Rattle.tables.specs.declared.Head.{Head}
 use Rattle.place.specs.Place.{lastPage}
 use Rattle.layout.specs.Layout.{Laid}
 use Rattle.due_text.specs.Bytes.{Reading, dueBytes, byteCount}
-use Rattle.pages.specs.declared.Outcome.{Outcome}
-use Rattle.pages.specs.declared.Outcome.the-variants.{Done, PageLimit, NoRoom}
+use Rattle.answer.specs.declared.Outcome.{Outcome}
+use Rattle.answer.specs.declared.Outcome.the-variants.{Done, PageLimit, NoRoom}
 
 -- "a page change, RF's turn too, would pass page 999,999"
 abbrev pub pastLast : Laid → Bool

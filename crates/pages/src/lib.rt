@@ -4,19 +4,13 @@ ghost use Rattle.layout.specs.Facts.{Called};
 ghost use Rattle.due_text.specs.Bytes.{reading};
 ghost use Rattle.due_text.specs.Facts.{Printable};
 ghost use Rattle.pages.specs.Facts.{Answered};
+use answer::Outcome;
 use call_text::Task;
 use layout::Pos;
 use place::LAST_PAGE;
 use plan::Plan;
 use printed::Prefix;
 use tables::Head;
-
-// What a call answers: the bytes written and the next place, or refusal 8 or 9.
-pub enum Outcome {
-    Done(usize, Pos),
-    PageLimit,
-    NoRoom,
-}
 
 // What a call prints: the groups of a plan from a place on, the indicate flag of its detail, and what stands in front of
 // each record.

@@ -1,11 +1,14 @@
 -- What a state holds of a record and of the details.
 use Prim.Native.Nat.{ℕ}
-use mathlib.Core.Bool.{Bool}
+use mathlib.Core.Bool.{Bool, false, cond}
 use mathlib.Core.List.{List}
-use lib.Dec.{ltb}
-use lib.ListN.{replicate}
+use lib.Dec.{ltb, eqb}
+use lib.ListN.{replicate, set}
 use Rattle.counts.specs.Below.{listBelow}
 use Rattle.splice.specs.Splice.{splice}
+use Rattle.tables.specs.declared.Head.{Head}
+use Rattle.tables.specs.Table.{lineCount}
+use Rattle.lookup.specs.Find.{theDetail, details}
 use Rattle.state.specs.State.{flagCount, keptSize}
 
 -- "a kept record of 256 bytes": the record, "then zeros"
@@ -15,3 +18,17 @@ paddedRow row = splice (replicate keptSize 0) 0 row
 -- "set each detail's indicate flag": of all flags, those of n details
 unfoldable pub flagsSet : ℕ → List Bool
 flagsSet n = listBelow flagCount (λ i. ltb i n)
+
+-- "Printing a detail that has lines clears its flag."
+abbrev pub cleared : Head → List ℕ → ℕ → List Bool → List Bool
+cleared h t detail flags = cond (eqb (lineCount h t (theDetail h t detail)) 0) flags (set flags detail false)
+
+-- "On a break at level b: .. then keep the record and set indicate flags"; without a break b is the number of controls
+abbrev pub breaks : Head → ℕ → Bool
+breaks h b = ltb b (h .controls)
+
+abbrev pub flagsAt : Head → List ℕ → ℕ → List Bool → List Bool
+flagsAt h t b flags = cond (breaks h b) (flagsSet (details h t)) flags
+
+abbrev pub keptAt : Head → ℕ → List ℕ → List ℕ → List ℕ
+keptAt h b row kept = cond (breaks h b) (paddedRow row) kept

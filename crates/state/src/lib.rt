@@ -1,9 +1,11 @@
 // The state of a report; the kept record and the indicate flags that a call sets.
 ghost use mathlib.Core.Path.{_≡_};
-ghost use Prim.Native.Nat.{_≤_};
+ghost use Prim.Native.Nat.{_≤_, _<_};
 ghost use lib.ListN.{length};
-ghost use Rattle.state.specs.State.{idle, keptSize, freshAt};
-ghost use Rattle.state.specs.Kept.{paddedRow, flagsSet};
+ghost use Rattle.lookup.specs.Find.{theDetail};
+ghost use Rattle.state.specs.State.{idle, flagCount, keptSize, freshAt};
+ghost use Rattle.state.specs.Kept.{paddedRow, flagsSet, cleared as clearedSpec, flagsAt, keptAt};
+use tables::Head;
 
 // The sums, the indicate flags and the bytes of the kept record that a state has.
 pub const SUM_COUNT: usize = file::COUNTERS_MAX;
@@ -79,4 +81,46 @@ pub fn flags_set(n: usize) -> [bool; FLAG_COUNT]
     ensures { λ r. ⌜ r ≡ flagsSet n ⌝ }
 {
     [0 < n, 1 < n, 2 < n, 3 < n, 4 < n, 5 < n, 6 < n, 7 < n]
+}
+
+// The flags after a detail was printed: its own is cleared where it has lines.
+pub fn cleared(
+    t: &[u16],
+    h: Head,
+    detail: usize,
+    group: usize,
+    flags: [bool; FLAG_COUNT],
+) -> [bool; FLAG_COUNT]
+    requires { ⌜ (detail < flagCount) × ((group ≡ theDetail h (now t) detail) × (group < 65536)) ⌝ }
+    ensures { λ r. ⌜ r ≡ clearedSpec h (now (t .entry)) detail flags ⌝ }
+{
+    if tables::group_num(t, h, group, 3) == 0 {
+        return flags;
+    }
+    let mut next = flags;
+    next[detail] = false;
+    next
+}
+
+// The flags at a break at level `b`: all set; without a break as they were.
+pub fn flags_at(t: &[u16], h: Head, b: usize, flags: [bool; FLAG_COUNT]) -> [bool; FLAG_COUNT]
+    ensures { λ r. ⌜ r ≡ flagsAt h (now (t .entry)) b flags ⌝ }
+{
+    if b < tables::wide(h.controls) {
+        flags_set(lookup::details_of(t, h))
+    } else {
+        flags
+    }
+}
+
+// The record kept after a row with a break at level `b`; without a break the older one stays.
+pub fn kept_at(h: Head, b: usize, rec: &[u8], kept: [u8; KEPT_SIZE]) -> [u8; KEPT_SIZE]
+    requires { ⌜ length (now rec) ≤ keptSize ⌝ }
+    ensures { λ r. ⌜ r ≡ keptAt h b (now (rec .entry)) kept ⌝ }
+{
+    if b < tables::wide(h.controls) {
+        padded(rec)
+    } else {
+        kept
+    }
 }

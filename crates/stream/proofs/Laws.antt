@@ -17,7 +17,7 @@ use Rattle.layout.specs.declared.Pos.{Pos}
 use Rattle.description.specs.declared.Checked.{Checked}
 use Rattle.description.specs.declared.Checked.the-variants as checked
 use Rattle.description.specs.Check as check
-use Rattle.pages.specs.declared.Outcome.the-variants.{Done, PageLimit, NoRoom}
+use Rattle.answer.specs.declared.Outcome.the-variants.{Done, PageLimit, NoRoom}
 use Rattle.pages.specs.Outcome.{pastLast, tooShort, outcome, written}
 use Rattle.due_text.specs.Bytes.{dueBytes, byteCount}
 use Rattle.splice.specs.Splice.{splice}

@@ -5,7 +5,7 @@ use mathlib.Core.Path.{_≡_, refl, ap, _∙_}
 use mathlib.Core.Bool.{true, false}
 use mathlib.Core.List.{List}
 use Rattle.tables.specs.declared.Head.{Head}
-use Rattle.pages.specs.declared.Outcome.{Outcome}
+use Rattle.answer.specs.declared.Outcome.{Outcome}
 use Rattle.pages.specs.Facts.{Answered}
 use Rattle.state.specs.declared.State.{State}
 use Rattle.verdict.specs.declared.Verdict.the-variants.{Sum}

@@ -2,7 +2,7 @@
 -- Assumes nothing.
 use Prim.Native.Nat.{ℕ}
 use mathlib.Core.Path.{_≡_}
-use mathlib.Core.Bool.{Bool, true, false, cond}
+use mathlib.Core.Bool.{Bool, true, false}
 use mathlib.Core.List.{List}
 use lib.ListN.{getD}
 use Rattle.tables.specs.declared.Head.{Head}
@@ -15,11 +15,11 @@ use Rattle.plan.specs.Plan.{firstPlan, laterPlan, lastPlan}
 use Rattle.pages.specs.declared.Job.{Job}
 use Rattle.state.specs.declared.State.{State}
 use Rattle.state.specs.State.{idle, running}
-use Rattle.state.specs.Kept.{paddedRow, flagsSet}
+use Rattle.state.specs.Kept.{paddedRow, flagsSet, cleared, flagsAt, keptAt}
 use Rattle.answer.specs.declared.Answer.{Answer}
 use Rattle.answer.specs.Result.{Returns}
 use Rattle.work.specs.Work.{jobOf, prepared, settled}
-use Rattle.work.specs.Rows.{cleared, breaks, flagsAt, firstWork, laterWork, lastWork}
+use Rattle.work.specs.Rows.{firstWork, laterWork, lastWork}
 
 module _ (h : Head) (t lits : List ℕ) (s : State) (out : List ℕ) {r : Answer} {new : List ℕ} where
   module _ (detail : ℕ) (row : List ℕ) where
@@ -28,7 +28,7 @@ module _ (h : Head) (t lits : List ℕ) (s : State) (out : List ℕ) {r : Answer
     unfolding firstWork
     first-so e1 e2 e3 j e4 e5 e6 e7 x = rw (e1, j, e3, e2, e4, e7, e6, e5) at x
 
-    pub later-so : {b g : ℕ} {totals : Totals} {p : Plan} {job : Job} {set flags : List Bool} {next : List ℕ} → b ≡ breakLevel h t (s .kept) row → totals ≡ totalsLater h t row detail b (s .sums) → g ≡ theDetail h t detail → p ≡ laterPlan h b g → set ≡ flagsAt h t b (s .flags) → job ≡ jobOf s p (getD set detail false) → flags ≡ cleared h t detail set → next ≡ cond (breaks h b) (paddedRow row) (s .kept)
+    pub later-so : {b g : ℕ} {totals : Totals} {p : Plan} {job : Job} {set flags : List Bool} {next : List ℕ} → b ≡ breakLevel h t (s .kept) row → totals ≡ totalsLater h t row detail b (s .sums) → g ≡ theDetail h t detail → p ≡ laterPlan h b g → set ≡ flagsAt h t b (s .flags) → job ≡ jobOf s p (getD set detail false) → flags ≡ cleared h t detail set → next ≡ keptAt h b row (s .kept)
         → Returns (settled h t s (prepared h t lits (s .kept) row (record { state = s; totals = totals; job = job; phase = running; flags = flags; kept = next })) out) r new → Returns (settled h t s (laterWork h t lits s detail row) out) r new
     unfolding laterWork
     later-so e1 e2 e3 e4 e5 j e6 e7 x = rw (e2, j, e4, e3, e6, e5, e7, e1) at x

@@ -1,11 +1,10 @@
 -- The work of the first row, of a later one, and of the last footings.
 use Prim.Native.Nat.{ℕ}
-use mathlib.Core.Bool.{Bool, true, false, cond}
+use mathlib.Core.Bool.{true, false, cond}
 use mathlib.Core.List.{List}
-use lib.Dec.{ltb, eqb}
-use lib.ListN.{getD, set}
+use lib.Dec.{eqb}
+use lib.ListN.{getD}
 use Rattle.tables.specs.declared.Head.{Head}
-use Rattle.tables.specs.Table.{lineCount}
 use Rattle.lookup.specs.Find.{theDetail, details}
 use Rattle.rows.specs.Breaks.{breakLevel}
 use Rattle.sums.specs.declared.Totals.{Totals}
@@ -13,15 +12,9 @@ use Rattle.amounts.specs.Totals.{totalsFirst, totalsLater, totalsLast}
 use Rattle.plan.specs.Plan.{firstPlan, laterPlan, lastPlan}
 use Rattle.state.specs.declared.State.{State}
 use Rattle.state.specs.State.{idle, started, running}
-use Rattle.state.specs.Kept.{paddedRow, flagsSet}
+use Rattle.state.specs.Kept.{paddedRow, flagsSet, cleared, flagsAt, keptAt}
 use Rattle.work.specs.Work.{jobOf, Work, prepared}
 
--- ---- flags
--- "Printing a detail that has lines clears its flag."
-abbrev pub cleared : Head → List ℕ → ℕ → List Bool → List Bool
-cleared h t detail flags = cond (eqb (lineCount h t (theDetail h t detail)) 0) flags (set flags detail false)
-
--- ---- the work of each call
 -- "First GENERATE: phase running, keep the record, set each detail's indicate flag; RH, PH, all CH senior to junior; then subtotal; then the detail."
 abbrev pub firstWith : Head → List ℕ → List ℕ → State → ℕ → List ℕ → Totals → Work
 firstWith h t lits s detail row totals = prepared h t lits (paddedRow row) row (record {
@@ -37,13 +30,6 @@ unfoldable pub firstWork : Head → List ℕ → List ℕ → State → ℕ → 
 firstWork h t lits s detail row = firstWith h t lits s detail row (totalsFirst h t row detail (s .sums))
 
 -- "On a break at level b: CFs from junior up to b, then keep the record and set indicate flags, then CHs from b down; then subtotal and detail."
--- Without a break b is the number of controls
-abbrev pub breaks : Head → ℕ → Bool
-breaks h b = ltb b (h .controls)
-
-abbrev pub flagsAt : Head → List ℕ → ℕ → List Bool → List Bool
-flagsAt h t b flags = cond (breaks h b) (flagsSet (details h t)) flags
-
 abbrev pub laterWith : Head → List ℕ → List ℕ → State → ℕ → List ℕ → ℕ → Totals → Work
 laterWith h t lits s detail row b totals = prepared h t lits (s .kept) row (record {
   state = s;
@@ -51,7 +37,7 @@ laterWith h t lits s detail row b totals = prepared h t lits (s .kept) row (reco
   job = jobOf s (laterPlan h b (theDetail h t detail)) (getD (flagsAt h t b (s .flags)) detail false);
   phase = running;
   flags = cleared h t detail (flagsAt h t b (s .flags));
-  kept = cond (breaks h b) (paddedRow row) (s .kept);
+  kept = keptAt h b row (s .kept);
 })
 
 abbrev pub laterAt : Head → List ℕ → List ℕ → State → ℕ → List ℕ → ℕ → Work

@@ -1,18 +1,14 @@
 // The work of a row and of the last footings, on the tables of an accepted description.
 ghost use mathlib.Core.Path.{_≡_};
-ghost use mathlib.Core.Bool.{cond};
-ghost use Prim.Native.Nat.{_≤_, _<_};
 ghost use lib.ListN.{length};
-ghost use Rattle.lookup.specs.Find.{theDetail};
 ghost use Rattle.layout.specs.Facts.{Called};
 ghost use Rattle.due_text.specs.Bytes.{reading};
 ghost use Rattle.due_text.specs.Facts.{Printable};
-ghost use Rattle.state.specs.State.{started, running, sumCount, flagCount, keptSize};
-ghost use Rattle.state.specs.Kept.{paddedRow};
+ghost use Rattle.state.specs.State.{started, running, sumCount};
 ghost use Rattle.refusals.specs.Facts.{RowIn};
 ghost use Rattle.answer.specs.Result.{Returns};
 ghost use Rattle.work.specs.Work.{jobOf, prepared, settled};
-ghost use Rattle.work.specs.Rows.{cleared as clearedSpec, breaks, flagsAt, firstWork, laterWork, lastWork};
+ghost use Rattle.work.specs.Rows.{firstWork, laterWork, lastWork};
 ghost use Rattle.work.specs.Facts.{Stands};
 use answer::Answer;
 use pages::Job;
@@ -21,25 +17,6 @@ use state::State;
 use sums::Totals;
 use tables::Head;
 use verdict::Verdict;
-
-// The flags after a detail was printed: its own is cleared where it has lines.
-fn cleared(
-    t: &[u16],
-    h: Head,
-    detail: usize,
-    group: usize,
-    flags: [bool; state::FLAG_COUNT],
-) -> [bool; state::FLAG_COUNT]
-    requires { ⌜ (detail < flagCount) × ((group ≡ theDetail h (now t) detail) × (group < 65536)) ⌝ }
-    ensures { λ r. ⌜ r ≡ clearedSpec h (now (t .entry)) detail flags ⌝ }
-{
-    if tables::group_num(t, h, group, 3) == 0 {
-        return flags;
-    }
-    let mut next = flags;
-    next[detail] = false;
-    next
-}
 
 // What a call has worked out before it prints: the state handed in, the totals, what is to be printed, and the parts of the
 // next state that the printing does not give.
@@ -112,7 +89,7 @@ pub fn first_row(
     let totals = amounts::totals_first(t, h, rec, detail, old);
     let kept = state::padded(rec);
     let next = kept;
-    let flags = cleared(
+    let flags = state::cleared(
         t,
         h,
         detail,
@@ -129,34 +106,6 @@ pub fn first_row(
         kept: next,
     };
     run(t, h, lits, &kept, rec, w, out)
-}
-
-// The flags at a break at level `b`: all set; without a break as they were.
-fn flags_at(
-    t: &[u16],
-    h: Head,
-    b: usize,
-    flags: [bool; state::FLAG_COUNT],
-) -> [bool; state::FLAG_COUNT]
-    ensures { λ r. ⌜ r ≡ flagsAt h (now (t .entry)) b flags ⌝ }
-{
-    if b < tables::wide(h.controls) {
-        state::flags_set(lookup::details_of(t, h))
-    } else {
-        flags
-    }
-}
-
-// The record kept after a row with a break at level `b`; without a break the older one stays.
-fn kept_at(h: Head, b: usize, rec: &[u8], kept: [u8; state::KEPT_SIZE]) -> [u8; state::KEPT_SIZE]
-    requires { ⌜ length (now rec) ≤ keptSize ⌝ }
-    ensures { λ r. ⌜ r ≡ cond (breaks h b) (paddedRow (now (rec .entry))) kept ⌝ }
-{
-    if b < tables::wide(h.controls) {
-        state::padded(rec)
-    } else {
-        kept
-    }
 }
 
 // A later row. It works as `run` does, but in its own place: of all calls this one is made the most, and `run` copies what it is handed.
@@ -181,14 +130,14 @@ pub fn later_row(
         return answer::refusal(s, Verdict::Sum);
     }
     let before = s.flags;
-    let set = flags_at(t, h, b, before);
+    let set = state::flags_at(t, h, b, before);
     let flag = set[detail];
     let job = job_of(s, plan::later_plan(h, b, group), flag);
     let outcome = pages::call(t, h, lits, &s.kept, rec, &totals.shown, job, out);
     let sums = totals.sums;
     let kept = s.kept;
-    let flags = cleared(t, h, detail, group, set);
-    let next = kept_at(h, b, rec, kept);
+    let flags = state::cleared(t, h, detail, group, set);
+    let next = state::kept_at(h, b, rec, kept);
     answer::conclude(s, State::RUNNING, sums, flags, next, outcome)
 }
 

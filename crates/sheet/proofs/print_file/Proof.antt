@@ -10,18 +10,18 @@ use Rattle.sheet.proofs.print_file.Statement.{statement}
 use Rattle.sheet.proofs.print_file.Tie as tie
 
 abbrev Inv-loop : tie.InvT-loop
-Inv-loop d fd path size progress buffer₀ out₀ part sheet₀ turns₀ buffer out sheet turns =
+Inv-loop d fd path size progress buffer₀ out₀ room part sheet₀ turns₀ buffer out sheet turns =
     (part ≤ length buffer) × (sheet .waiting ≤ length out) × (sheet .from ≤ sheet .to) × (sheet .to ≤ length buffer) × (1 ≤ size) × (length buffer ≡ length buffer₀) × (length out ≡ length out₀)
 
 abbrev μ-loop : tie.MeasureT-loop
-μ-loop d fd path size progress buffer₀ out₀ part sheet₀ turns₀ buffer out sheet turns = turns
+μ-loop d fd path size progress buffer₀ out₀ room part sheet₀ turns₀ buffer out sheet turns = turns
 
 pub print-file-spec : {M : Type 1} → statement M
 print-file-spec =
     tie.close
     (tie.spec Inv-loop μ-loop
     (λ c. omega arith)
-    (λ c. mod-le 65536 (c .before .before .before .before .args .size))
+    (λ c. mod-le _ _)
     (λ c. omega arith)
     (λ c. omega arith)
     (λ c κs. search needs)

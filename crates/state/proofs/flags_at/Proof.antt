@@ -1,11 +1,11 @@
--- `work::flags_at` meets its contract, by the test on the level.
+-- `state::flags_at` meets its contract, by the test on the level.
 -- Assumes nothing.
 use mathlib.Core.Path.{refl, ap, _∙_}
 use borrow.Author.Needs.{needs}
 use borrow.Author.Tests.{lt-ltb, le-ltb}
 use Rattle.state.specs.Kept.{flagsSet}
-use Rattle.work.proofs.flags_at.Statement.{statement}
-use Rattle.work.proofs.flags_at.Tie as tie
+use Rattle.state.proofs.flags_at.Statement.{statement}
+use Rattle.state.proofs.flags_at.Tie as tie
 
 pub flags-at-spec : {M : Type 1} → statement M
 flags-at-spec =

@@ -1,4 +1,4 @@
--- `work::cleared` meets its contract, by the line count of the detail.
+-- `state::cleared` meets its contract, by the line count of the detail.
 -- Assumes nothing.
 use mathlib.Core.Path.{_≡_, refl, sym, ap, _∙_}
 use native.Mathlib.Omega.{arith}
@@ -6,8 +6,8 @@ use borrow.Author.Tests.{eq-eqb, ne-eqb}
 use Rattle.tables.specs.Table.{lineCount}
 use Rattle.lookup.specs.Find.{theDetail}
 use borrow.Author.Needs.{needs}
-use Rattle.work.proofs.cleared.Statement.{statement}
-use Rattle.work.proofs.cleared.Tie as tie
+use Rattle.state.proofs.cleared.Statement.{statement}
+use Rattle.state.proofs.cleared.Tie as tie
 
 lines-are : (c : tie.After-group-num) → c .group-num .result ≡ lineCount (c .before .before .args .h) (c .before .before .args .t .now) (theDetail (c .before .before .args .h) (c .before .before .args .t .now) (c .before .before .args .detail))
 lines-are c = c .group-num .ensures .is ∙ ap (lineCount (c .before .before .args .h) (c .before .before .args .t .now)) (c .before .before .pre .1 .0)

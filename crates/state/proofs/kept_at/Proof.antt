@@ -1,10 +1,10 @@
--- `work::kept_at` meets its contract, by the test on the level.
+-- `state::kept_at` meets its contract, by the test on the level.
 -- Assumes nothing.
 use mathlib.Core.Path.{refl}
 use borrow.Author.Needs.{needs}
 use borrow.Author.Tests.{lt-ltb, le-ltb}
-use Rattle.work.proofs.kept_at.Statement.{statement}
-use Rattle.work.proofs.kept_at.Tie as tie
+use Rattle.state.proofs.kept_at.Statement.{statement}
+use Rattle.state.proofs.kept_at.Tie as tie
 
 pub kept-at-spec : {M : Type 1} → statement M
 kept-at-spec =

@@ -1,0 +1,115 @@
+// What a program tells on standard error: text, numbers, a refusal as a sentence with its numbers.
+use libc::STDERR_FILENO;
+use verdict::Verdict;
+
+pub fn say(text: &[u8]) {
+    io::write_all(STDERR_FILENO, text);
+}
+
+pub fn say_number(n: u64) {
+    io::print_decimal(STDERR_FILENO, n);
+}
+
+// ---- a refusal: where, what, and its numbers
+// The place of a refused row.
+pub fn at_row(row: u64) {
+    say(b"sheet: row ");
+    say_number(row);
+    say(b": ");
+}
+
+// What a rule of a description is about.
+fn rule_word(rule: usize) {
+    match rule {
+        1 => say(b" (sections)"),
+        2 => say(b" (page)"),
+        3 => say(b" (fields)"),
+        4 => say(b" (controls)"),
+        5 => say(b" (groups)"),
+        6 => say(b" (lines)"),
+        7 => say(b" (items)"),
+        _ => say(b" (counters)"),
+    }
+}
+
+fn broken_rule(rule: usize) {
+    say(b"description breaks rule ");
+    say_number(rule as u64);
+    rule_word(rule);
+}
+
+// A number of the description; 0 past its end.
+fn number_at(d: &[u8], at: usize) -> u64 {
+    let n = d.len();
+    if n < 2 {
+        return 0;
+    }
+    if at > n - 2 {
+        return 0;
+    }
+    file::num_at(d, at) as u64
+}
+
+// The bytes of a field in its record, from the first to the last.
+fn span(first: u64, width: u64) {
+    say(b" (bytes ");
+    say_number(first);
+    say(b" to ");
+    say_number(std::num::wrapping_sub_u64(std::num::wrapping_add_u64(first, width), 1));
+    say(b")");
+}
+
+// Fields stand first in the description: kind, offset, width; 2 bytes each.
+fn field_span(d: &[u8], k: usize) {
+    if k < file::FIELDS_MAX {
+        let at = file::FIELD_SIZE * k;
+        span(number_at(d, at + 2), number_at(d, at + 4));
+    }
+}
+
+fn malformed_field(d: &[u8], k: usize) {
+    say(b"field ");
+    say_number(k as u64);
+    field_span(d, k);
+    say(b" is malformed");
+}
+
+// The described length of a record.
+fn described_length(d: &[u8]) -> u64 {
+    if d.len() < file::TRAILER_LEAST {
+        return 0;
+    }
+    file::setting_of(d, file::RECORD_LENGTH) as u64
+}
+
+fn wrong_length(d: &[u8], length: usize) {
+    say(b"the record's length is ");
+    say_number(length as u64);
+    say(b", not ");
+    say_number(described_length(d));
+}
+
+fn sentence(d: &[u8], length: usize, v: Verdict) {
+    match v {
+        Verdict::Accepted => say(b"the call is accepted"),
+        Verdict::Description(rule) => broken_rule(rule),
+        Verdict::State => say(b"the state breaks its rules"),
+        Verdict::Phase => say(b"the call is out of turn"),
+        Verdict::Detail => say(b"there is no such detail"),
+        Verdict::Length => wrong_length(d, length),
+        Verdict::Field(field) => malformed_field(d, field),
+        Verdict::Sum => say(b"an addition would leave the sum range"),
+        Verdict::Pages => say(b"a page change would pass page 999999"),
+        Verdict::Room => say(b"the output has no room for the lines"),
+    }
+}
+
+// A refusal of a call with this description and a record of this length: a sentence and the numbers of document 01's table.
+pub fn refusal(d: &[u8], length: usize, v: Verdict) {
+    sentence(d, length, v);
+    say(b"; refusal ");
+    say_number(v.number());
+    say(b", extra number ");
+    say_number(v.extra());
+    say(b"\n");
+}
