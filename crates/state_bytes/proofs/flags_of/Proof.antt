@@ -8,7 +8,7 @@ use borrow.Author.Needs.{needs}
 use borrow.Author.Count.{below-none}
 use lib.ListN.{length, getD, length-set}
 use Rattle.counts.proofs.Laws.{list-filled}
-use Rattle.tables.proofs.Fill.{fill-next}
+use Rattle.counts.proofs.Fill.{fill-next}
 use Rattle.state.specs.State.{flagCount}
 use Rattle.state_bytes.specs.Bytes.{flagsStart, flagAt}
 use Rattle.state_bytes.proofs.flags_of.Statement.{statement}

@@ -10,7 +10,7 @@ use lib.ListN.{length, getD, length-set}
 use mir.Syntax.{w64}
 use mir.ValLaws.{toZ-ofZ}
 use Rattle.counts.proofs.Laws.{list-filled}
-use Rattle.tables.proofs.Fill.{fill-next}
+use Rattle.counts.proofs.Fill.{fill-next}
 use Rattle.state.specs.State.{sumCount}
 use Rattle.little_endian.specs.Numbers.{number}
 use Rattle.little_endian.specs.Sign.{ofBits}

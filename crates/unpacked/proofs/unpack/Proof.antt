@@ -9,7 +9,7 @@ use lib.ListN.{length, getD, length-set}
 use Rattle.counts.proofs.Laws.{list-filled}
 use Rattle.file.specs.Number.{num}
 use Rattle.unpacked.specs.Table.{numbers}
-use Rattle.tables.proofs.Fill.{fill-next}
+use Rattle.counts.proofs.Fill.{fill-next}
 use Rattle.unpacked.proofs.Says.{inside, block}
 use Rattle.unpacked.proofs.unpack.Statement.{statement}
 use Rattle.unpacked.proofs.unpack.Tie as tie
