@@ -2,7 +2,7 @@
 ghost use mathlib.Core.Path.{_≡_};
 ghost use Rattle.description.specs.Check.{checked, judged};
 ghost use Rattle.description.specs.Refusal.{number, extra, Answers};
-ghost use Rattle.unpacked.specs.Table.{literals};
+ghost use Rattle.unpacked.specs.Table.{table, literals};
 ghost use Rattle.description.specs.Facts.{LiteralsIn, TableRoom};
 use file::Rule;
 use tables::Head;
@@ -75,10 +75,10 @@ pub fn literals_of(d: &[u8]) -> &[u8]
     &d[start..end]
 }
 
-// D2 to D8 of a description that keeps D1, in a table that has just room for its numbers.
-fn check_in(d: &[u8], h: Head, t: &mut [u16]) -> Checked
+// CHECK of a description that keeps D1, and its table, made in just room for its numbers: what every call on tables begins with.
+pub fn check_in(d: &[u8], h: Head, t: &mut [u16]) -> Checked
     requires { ⌜ TableRoom (now d) h (now t) ⌝ }
-    ensures { λ r. ⌜ r ≡ checked (now (d .entry)) ⌝ }
+    ensures { λ r. ⌜ (r ≡ checked (now (d .entry))) × (now (t .exit) ≡ table (now (d .entry))) ⌝ }
 {
     unpacked::unpack(d, t);
     judge(t, h, file::version_of(d), literals_of(d))

@@ -2,7 +2,6 @@
 ghost use Prim.Native.Nat.{_≤_};
 ghost use mathlib.Core.Path.{_≡_};
 ghost use lib.ListN.{length};
-use description::Checked;
 use report::Report;
 use state::State;
 use unpacked::Opened;
@@ -194,8 +193,7 @@ pub fn record_length(d: &[u8]) -> usize
     n
 }
 
-// INITIATE of a fresh report, told where it is refused. That can only be for the description, so CHECK names the rule: with
-// a second use of D2 to D8 in the program the compiler does not set them into each call, and a row costs 440 instructions less.
+// INITIATE of a fresh report, told where it is refused.
 pub fn initiated(d: &[u8]) -> Sheet
     ensures { λ r. ⌜ (r .waiting ≡ 0) × (r .from ≡ 0) × (r .to ≡ 0) ⌝ }
 {
@@ -206,9 +204,9 @@ pub fn initiated(d: &[u8]) -> Sheet
     let state = a.state;
     let v = a.verdict;
     let is_accepted = v.number() == 0;
-    if let Checked::Broken(rule) = description::check(d) {
+    if !is_accepted {
         words::say(b"sheet: ");
-        words::refusal(d, 0, Verdict::Description(rule));
+        words::refusal(d, 0, v);
     }
     Sheet {
         state,

@@ -30,12 +30,12 @@ fn call_in(
     requires { ⌜ TableRoom (now d) h (now t) ⌝ }
     ensures { λ r. ⌜ Returns (callSpec (now (d .entry)) s asked (now (rec .entry)) (now (out .entry))) r (now (out .exit)) ⌝ }
 {
-    unpacked::unpack(d, t);
-    let lits = description::literals_of(d);
-    let judged = description::judge(t, h, file::version_of(d), lits);
-    match judged {
+    let checked = description::check_in(d, h, t);
+    match checked {
         Checked::Broken(rule) => answer::refusal(s, Verdict::Description(rule)),
-        Checked::Accepted => calls::call_on(t, h, lits, s, asked, rec, out),
+        Checked::Accepted => {
+            calls::call_on(t, h, description::literals_of(d), s, asked, rec, out)
+        }
     }
 }
 

@@ -23,7 +23,7 @@ fn print_rows(d: &[u8], size: usize, s: Sheet, buffer: &[u8], out: &mut [u8]) ->
     let to = s.to;
     let at = s.waiting;
     let state = s.state;
-    stream::generate_all(d, &buffer[from..to], size, state, &mut out[at..])
+    batch::generate_all(d, &buffer[from..to], size, state, &mut out[at..])
 }
 
 // Where the sheet stands after these records.

@@ -11,19 +11,14 @@ use lib.ListN.{length, take, drop, take-append-drop, length-drop, drop-of-length
 use lib.Seq.{take-all}
 use borrow.Rule.Slice.PartMut.{putMid}
 use Rattle.tables.specs.declared.Head.{Head}
-use Rattle.unpacked.specs.Head.{headOf}
-use Rattle.unpacked.specs.Table.{table, literals}
 use Rattle.layout.specs.declared.Pos.{Pos}
-use Rattle.description.specs.declared.Checked.{Checked}
-use Rattle.description.specs.declared.Checked.the-variants as checked
-use Rattle.description.specs.Check as check
 use Rattle.answer.specs.declared.Outcome.the-variants.{Done, PageLimit, NoRoom}
 use Rattle.pages.specs.Outcome.{pastLast, tooShort, outcome, written}
 use Rattle.due_text.specs.Bytes.{dueBytes, byteCount}
 use Rattle.splice.specs.Splice.{splice}
 use Rattle.state.specs.declared.State.{State}
 use Rattle.verdict.specs.declared.Verdict.{Verdict}
-use Rattle.verdict.specs.declared.Verdict.the-variants.{Description, Sum, Pages, Room}
+use Rattle.verdict.specs.declared.Verdict.the-variants.{Sum, Pages, Room}
 use Rattle.refusals.specs.declared.Tried.{Tried}
 use Rattle.refusals.specs.declared.Tried.the-variants.{Passed, Refused}
 use Rattle.verdict.specs.Verdict.{number, accepted}
@@ -33,8 +28,7 @@ use Rattle.work.specs.Work.{Work, moved, settled}
 use Rattle.refusals.specs.Stages.{rowTried}
 use Rattle.work.specs.Rows.{rowWork}
 use Rattle.calls.specs.Calls.{unless, callOn}
-use Rattle.report.specs.Calls.{ifAccepted, call, generate}
-use Rattle.stream.specs.Run.{Ran, next, goes, ran, begun, generateAll, Comes}
+use Rattle.stream.specs.Run.{Ran, One, stepped, next, goes, ran, begun, through, rowOn, Comes}
 
 -- ---- one call
 -- what is written fits, and a refusal leaves the output
@@ -63,47 +57,76 @@ unless-fits : (s : State) (o : List ℕ) (r : Result) (t : Tried) → Fits o r �
 unless-fits s o r Passed f = f
 unless-fits s o r (Refused v) f = refuse-fits s o v
 
-accepted-fits : (k : Checked) (s : State) (o : List ℕ) (r : Result) → Fits o r → Fits o (ifAccepted k s o r)
-accepted-fits checked.Accepted s o r f = f
-accepted-fits (checked.Broken n) s o r f = refuse-fits s o (Description n)
-
-pub generate-fits : (d : List ℕ) (s : State) (detail : ℕ) (row o : List ℕ) → Fits o (generate d s detail row o)
-unfolding call callOn
-generate-fits d s detail row o =
-    let h = headOf d in
-    let t = table d in
-    accepted-fits (check.checked d) s o _
-    (unless-fits s o _ (rowTried h t s detail row) (settled-fits h t s (rowWork h t (literals d) s detail row) o))
+pub row-fits : (h : Head) (t lits : List ℕ) (detail : ℕ) (s : State) (row o : List ℕ) → Fits o (rowOn h t lits detail s row o)
+unfolding callOn
+row-fits h t lits detail s row o = unless-fits s o _ (rowTried h t s detail row) (settled-fits h t s (rowWork h t lits s detail row) o)
 
 -- ---- the run
-stays : (d rows : List ℕ) (size : ℕ) (x : Ran) (n : ℕ) → goes rows size x ≡ false → ran d rows size n x ≡ x
+pub stays : (one : One) (rows : List ℕ) (size : ℕ) (x : Ran) (n : ℕ) → goes rows size x ≡ false → ran one rows size n x ≡ x
 unfolding ran
-stays d rows size x zero g = refl
-stays d rows size x (suc n) g = rw g refl
+stays one rows size x zero g = refl
+stays one rows size x (suc n) g = rw g refl
 
 -- the values of the loop
 abbrev pub here : ℕ → ℕ → Verdict → State → List ℕ → Ran
 here k at v s out = record { run = record { done = k; count = at; verdict = v; state = s }; out = out }
 
-module _ (d rows : List ℕ) (size : ℕ) where
+-- two ways to do one record that agree on every record agree on many
+module _ (f g : One) (same : (s : State) (row o : List ℕ) → f s row o ≡ g s row o) (rows : List ℕ) (size : ℕ) where
+  next-same : (x : Ran) → next f rows size x ≡ next g rows size x
+  unfolding next
+  next-same x = ap (stepped size x) (same (x .run .state) (take size (drop (x .run .done) rows)) (drop (x .run .count) (x .out)))
+
+  ran-same : (n : ℕ) (x : Ran) → ran f rows size n x ≡ ran g rows size n x
+  unfolding ran
+  ran-same zero x = refl
+  ran-same (suc n) x = ap (λ (y : Ran). cond (goes rows size x) y x) (ap (ran f rows size n) (next-same x) ∙ ran-same n (next g rows size x))
+
+  pub through-same : (s : State) (out : List ℕ) → through f rows size s out ≡ through g rows size s out
+  unfolding through
+  through-same s out = ran-same (length rows) (begun s out)
+
+-- where no whole record is there, or the first one is refused, nothing is done
+module _ (one : One) (rows : List ℕ) (size : ℕ) (s : State) (out : List ℕ) where
+  pub through-none : goes rows size (begun s out) ≡ false → through one rows size s out ≡ begun s out
+  unfolding through
+  through-none g = stays one rows size (begun s out) (length rows) g
+
+  module _ (v : Verdict) (first : one s (take size rows) out ≡ refuse s out v) (halts : accepted v ≡ false) (sized : 1 ≤ size) (left : size ≤ length rows) where
+    next-halts : next one rows size (begun s out) ≡ here 0 0 v s out
+    unfolding next
+    next-halts = rw (first, halts) refl
+
+    ran-halts : (n : ℕ) → 1 ≤ n → ran one rows size n (begun s out) ≡ here 0 0 v s out
+    unfolding ran
+    ran-halts zero l = absurd (omega arith)
+    ran-halts (suc n) l =
+        rw (le-leb 1 size sized, le-leb (0 + size) (length rows) (omega arith))
+        (ap (ran one rows size n) next-halts ∙ stays one rows size (here 0 0 v s out) n (rw halts refl))
+
+    pub through-halts : through one rows size s out ≡ here 0 0 v s out
+    unfolding through
+    through-halts = ran-halts (length rows) (omega arith)
+
+module _ (one : One) (fits : (s : State) (row o : List ℕ) → Fits o (one s row o)) (rows : List ℕ) (size : ℕ) where
   -- what is left gives what all of it gives, and fuel for it is left
   pub record Reaches (done : ℕ) (x goal : Ran) : Type 0 where
     pub fuel : ℕ
     pub enough : length rows ≤ done + fuel
-    pub same : ran d rows size fuel x ≡ goal
+    pub same : ran one rows size fuel x ≡ goal
 
   reach-end : {done : ℕ} {x goal : Ran} → Reaches done x goal → goes rows size x ≡ false → x ≡ goal
-  reach-end {x = x} r g = sym (stays d rows size x (r .fuel) g) ∙ r .same
+  reach-end {x = x} r g = sym (stays one rows size x (r .fuel) g) ∙ r .same
 
   module _ (x goal : Ran) (more : goes rows size x ≡ true) (left : x .run .done < length rows) where
-    fuelled : (n : ℕ) → length rows ≤ x .run .done + n → ran d rows size n x ≡ goal → Reaches (x .run .done + 1) (next d rows size x) goal
+    fuelled : (n : ℕ) → length rows ≤ x .run .done + n → ran one rows size n x ≡ goal → Reaches (x .run .done + 1) (next one rows size x) goal
     unfolding ran
     fuelled zero f e = absurd (omega arith)
     fuelled (suc n) f e = record { fuel = n; enough = omega arith; same = rw more at e }
 
   module _ (s : State) (old : List ℕ) where
     abbrev goal : Ran
-    goal = generateAll d rows size s old
+    goal = through one rows size s old
 
     -- a run under way: every record so far is accepted
     pub record Underway (x : Ran) : Type 0 where
@@ -114,7 +137,7 @@ module _ (d rows : List ℕ) (size : ℕ) where
       pub reaches : Reaches (x .run .done) x goal
 
     pub underway-start : Underway (begun s old)
-    unfolding generateAll
+    unfolding through
     underway-start = record { inRows = omega arith; inOut = omega arith; long = refl; going = refl; reaches = record { fuel = length rows; enough = omega arith; same = refl } }
 
     pub underway-end : (x : Ran) → Underway x → goes rows size x ≡ false → Comes goal (x .run) (x .out) rows
@@ -126,7 +149,7 @@ module _ (d rows : List ℕ) (size : ℕ) where
     underway-done x u l = underway-end x u (simp (lt-leb (x .run .done + size) (length rows) l, and-false))
 
     -- one record
-    module _ (x : Ran) (u : Underway x) (one : 1 ≤ size) (left : x .run .done + size ≤ length rows) where
+    module _ (x : Ran) (u : Underway x) (sized : 1 ≤ size) (left : x .run .done + size ≤ length rows) where
       abbrev row : List ℕ
       row = take size (drop (x .run .done) rows)
 
@@ -142,27 +165,27 @@ module _ (d rows : List ℕ) (size : ℕ) where
           let z = drop-of-length-le end {i = length (x .out) - x .run .count} (omega (arith, length-drop (x .run .count) (x .out))) in
           rw z (ap (λ (r : List ℕ). take (x .run .count) (x .out) ++ r) (append-nil tail))
 
-      stepping : Reaches (x .run .done + 1) (next d rows size x) goal
+      stepping : Reaches (x .run .done + 1) (next one rows size x) goal
       stepping =
-          fuelled x goal (rw (u .going, le-leb 1 size one, le-leb (x .run .done + size) (length rows) left) refl) (omega arith) (u .reaches .fuel) (u .reaches .enough) (u .reaches .same)
+          fuelled x goal (rw (u .going, le-leb 1 size sized, le-leb (x .run .done + size) (length rows) left) refl) (omega arith) (u .reaches .fuel) (u .reaches .enough) (u .reaches .same)
 
       -- as the code lends the record and the rest of the output
       module _ {a : Answer} {tail : List ℕ}
-          (lent : Returns (generate d (x .run .state) 0 (take (x .run .done + size - x .run .done) (drop (x .run .done) rows)) (take (length (x .out) - x .run .count) end)) a tail)
+          (lent : Returns (one (x .run .state) (take (x .run .done + size - x .run .done) (drop (x .run .done) rows)) (take (length (x .out) - x .run .count) end)) a tail)
           (long : length (whole tail) ≡ length old) where
-        returns : Returns (generate d (x .run .state) 0 row end) a tail
+        returns : Returns (one (x .run .state) row end) a tail
         returns =
             let m : x .run .done + size - x .run .done ≡ size = omega arith in
             rw (m, take-all (length (x .out) - x .run .count) end (omega (arith, length-drop (x .run .count) (x .out)))) at lent
 
         pub room-left : x .run .count + a .count ≤ length (x .out)
-        room-left = rw (returns .answerIs) (omega (arith, generate-fits d (x .run .state) 0 row end .room, length-drop (x .run .count) (x .out), u .inOut))
+        room-left = rw (returns .answerIs) (omega (arith, fits (x .run .state) row end .room, length-drop (x .run .count) (x .out), u .inOut))
 
         pub underway-next : number (a .verdict) ≡ 0 → Underway (here (x .run .done + size) (x .run .count + a .count) (a .verdict) (a .state) (whole tail))
         unfolding next
         underway-next n =
-            let q = eq-eqb (number (generate d (x .run .state) 0 row end .answer .verdict)) 0 (rw (returns .answerIs) at n) in
-            let e : here (x .run .done + size) (x .run .count + a .count) (a .verdict) (a .state) (whole tail) ≡ next d rows size x = rw (whole-is tail, returns .outIs, returns .answerIs, q) refl in
+            let q = eq-eqb (number (one (x .run .state) row end .answer .verdict)) 0 (rw (returns .answerIs) at n) in
+            let e : here (x .run .done + size) (x .run .count + a .count) (a .verdict) (a .state) (whole tail) ≡ next one rows size x = rw (whole-is tail, returns .outIs, returns .answerIs, q) refl in
             record {
               inRows = left;
               inOut = omega (arith, room-left, u .long);
@@ -174,8 +197,8 @@ module _ (d rows : List ℕ) (size : ℕ) where
         pub underway-halt : (number (a .verdict) ≡ 0 → ⊥) → Comes goal (here (x .run .done) (x .run .count) (a .verdict) (x .run .state) (whole tail) .run) (whole tail) rows
         unfolding next
         underway-halt n =
-            let q = ne-eqb (number (generate d (x .run .state) 0 row end .answer .verdict)) 0 (λ z. n (rw (returns .answerIs) z)) in
-            let w : whole tail ≡ x .out = rw (whole-is tail, returns .outIs, generate-fits d (x .run .state) 0 row end .untouched q) (take-append-drop (x .run .count) (x .out)) in
-            let e : here (x .run .done) (x .run .count) (a .verdict) (x .run .state) (whole tail) ≡ next d rows size x = rw (w, returns .answerIs, q) refl in
+            let q = ne-eqb (number (one (x .run .state) row end .answer .verdict)) 0 (λ z. n (rw (returns .answerIs) z)) in
+            let w : whole tail ≡ x .out = rw (whole-is tail, returns .outIs, fits (x .run .state) row end .untouched q) (take-append-drop (x .run .count) (x .out)) in
+            let e : here (x .run .done) (x .run .count) (a .verdict) (x .run .state) (whole tail) ≡ next one rows size x = rw (w, returns .answerIs, q) refl in
             let f = e ∙ reach-end stepping (rw (← e, ne-eqb (number (a .verdict)) 0 n) refl) in
             record { runIs = ap (λ (z : Ran). z .run) f; outIs = ap (λ (z : Ran). z .out) f; inRows = u .inRows; inOut = omega (arith, u .inOut, u .long) }

@@ -1,8 +1,9 @@
-// Many records, one behind the other, as detail 0.
-ghost use Prim.Native.Nat.{_+_};
-ghost use Rattle.stream.specs.Run.{generateAll, Comes};
+// Many records, one behind the other, on the tables of an accepted description.
+ghost use Rattle.accepted.specs.Accepted.{Accepted};
+ghost use Rattle.stream.specs.Run.{rowOn, through, Comes};
 use calls::Asked;
 use state::State;
+use tables::Head;
 use verdict::Verdict;
 
 // How far it came: record bytes done, output bytes written, what stopped it (acceptance: nothing) and the state.
@@ -13,9 +14,19 @@ pub struct Run {
     pub state: State,
 }
 
-// Every whole record, until one is refused; each into what is left of the output.
-pub fn generate_all(d: &[u8], rows: &[u8], size: usize, s: State, out: &mut [u8]) -> Run
-    ensures { λ r. ⌜ Comes (generateAll (now (d .entry)) (now (rows .entry)) size s (now (out .entry))) r (now (out .exit)) (now (rows .entry)) ⌝ }
+// Every whole record of `size` bytes, until one is refused; each into what is left of the output.
+pub fn rows_on(
+    t: &[u16],
+    h: Head,
+    lits: &[u8],
+    s: State,
+    detail: usize,
+    rows: &[u8],
+    size: usize,
+    out: &mut [u8],
+) -> Run
+    requires { ⌜ Accepted h (now t) (now lits) ⌝ }
+    ensures { λ r. ⌜ Comes (through (rowOn h (now (t .entry)) (now (lits .entry)) detail) (now (rows .entry)) size s (now (out .entry))) r (now (out .exit)) (now (rows .entry)) ⌝ }
 {
     let n = rows.len();
     let mut state = s;
@@ -31,10 +42,12 @@ pub fn generate_all(d: &[u8], rows: &[u8], size: usize, s: State, out: &mut [u8]
         };
     }
     while size <= n - k {
-        let a = report::call(
+        let a = calls::call_on(
+            t,
+            h,
+            lits,
             state,
-            d,
-            Asked::Generate(0),
+            Asked::Generate(detail),
             &rows[k..k + size],
             &mut out[at..],
         );

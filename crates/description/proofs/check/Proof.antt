@@ -24,4 +24,4 @@ check-spec =
     fits
     (λ c. sym (front _ numbersMax 1 (fits (c .before))))
     (λ c κs. let p = under _ (c .before .before .before .before .before .opening-of .ensures) (c .before .before .before .h .given .1) in front-room _ (p .0) (p .1) (c .before .numbers-of .ensures) numbersMax 1 (fits (c .before)))
-    (λ c. answers _ _ (c .before .check-in .ensures)))
+    (λ c. answers _ _ (c .before .check-in .ensures .0)))

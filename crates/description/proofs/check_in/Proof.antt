@@ -1,4 +1,4 @@
--- `description::check_in` meets its contract: the tables' answer.
+-- `description::check_in` meets its contract: the tables' answer, and the table.
 -- Assumes nothing.
 use native.Mathlib.Omega.{arith}
 use borrow.Author.Needs.{needs}
@@ -10,7 +10,8 @@ use Rattle.description.proofs.check_in.Tie as tie
 returns : tie.Need-returns
 returns c =
     let b = c .before .before .before .before .before .before .before .before .before .before in
-    rw (d1-passed _ (b .pre .d1), ← b .pre .head, ← c .before .before .version-of .ensures .is, ← c .before .before .before .before .before .before .unpack .ensures, ← c .before .literals-of .ensures) (c .judge .ensures)
+    let u = c .before .before .before .before .before .before .unpack .ensures in
+    (rw (d1-passed _ (b .pre .d1), ← b .pre .head, ← c .before .before .version-of .ensures .is, ← u, ← c .before .literals-of .ensures) (c .judge .ensures), u)
 
 pub check-in-spec : {M : Type 1} → statement M
 check-in-spec =

@@ -1,0 +1,62 @@
+-- From the records on tables to the records under a description, and the runs that end before their first record.
+-- Assumes nothing.
+use Prim.Native.Nat.{ℕ, _+_, _≤_, _<_}
+use mathlib.Core.Path.{_≡_, refl}
+use mathlib.Core.Bool.{false, and-false}
+use mathlib.Core.List.{List}
+use native.Mathlib.Omega.{arith}
+use borrow.Author.Tests.{lt-leb}
+use lib.ListN.{length, take}
+use Rattle.tables.specs.declared.Head.{Head}
+use Rattle.unpacked.specs.Head.{headOf}
+use Rattle.unpacked.specs.Table.{table, literals}
+use Rattle.description.specs.declared.Checked.the-variants.{Accepted, Broken}
+use Rattle.description.specs.Check.{checked}
+use Rattle.state.specs.declared.State.{State}
+use Rattle.verdict.specs.declared.Verdict.the-variants as verdict
+use Rattle.answer.specs.Result.{refuse}
+use Rattle.report.specs.Calls.{call}
+use Rattle.stream.specs.declared.Run.{Run}
+use Rattle.stream.specs.Run.{Ran, goes, begun, through, rowOn, Comes}
+use Rattle.stream.proofs.Laws.{through-same, through-none, through-halts}
+use Rattle.batch.specs.Batch.{rowUnder, ended, generateAll}
+
+-- ---- one record
+row-on : (d : List ℕ) → checked d ≡ Accepted → (detail : ℕ) (s : State) (row o : List ℕ) → rowUnder d detail s row o ≡ rowOn (headOf d) (table d) (literals d) detail s row o
+unfolding call
+row-on d e detail s row o = rw e refl
+
+row-broken : (d : List ℕ) (k : ℕ) → checked d ≡ Broken k → (detail : ℕ) (s : State) (row o : List ℕ) → rowUnder d detail s row o ≡ refuse s o (verdict.Description k)
+unfolding call
+row-broken d k e detail s row o = rw e refl
+
+module _ (d rows : List ℕ) (size : ℕ) (s : State) (out : List ℕ) where
+  -- a run that is known comes to what it leaves
+  known : (x : Ran) (r : Run) → generateAll d rows size s out ≡ x → r ≡ x .run → x .run .done ≤ length rows → x .run .count ≤ length (x .out) → Comes (generateAll d rows size s out) r (x .out) rows
+  known x r e q l m = rw (e, q) (record { runIs = refl; outIs = refl; inRows = l; inOut = m })
+
+  -- ---- no whole record
+  none-sized : size ≡ 0 → goes rows size (begun s out) ≡ false
+  none-sized e = rw e refl
+
+  none-left : length rows < size → goes rows size (begun s out) ≡ false
+  none-left l = simp (lt-leb (0 + size) (length rows) (omega arith), and-false)
+
+  comes-none : goes rows size (begun s out) ≡ false → (r : Run) → r ≡ ended s verdict.Accepted → Comes (generateAll d rows size s out) r out rows
+  comes-none n r q = known (begun s out) r (through-none (rowUnder d 0) rows size s out n) q (omega arith) (omega arith)
+
+  pub comes-unsized : size ≡ 0 → (r : Run) → r ≡ ended s verdict.Accepted → Comes (generateAll d rows size s out) r out rows
+  comes-unsized e = comes-none (none-sized e)
+
+  pub comes-short : length rows < size → (r : Run) → r ≡ ended s verdict.Accepted → Comes (generateAll d rows size s out) r out rows
+  comes-short l = comes-none (none-left l)
+
+  -- ---- refusal 1
+  pub comes-broken : (k : ℕ) → checked d ≡ Broken k → 1 ≤ size → size ≤ length rows → (r : Run) → r ≡ ended s (verdict.Description k) → Comes (generateAll d rows size s out) r out rows
+  comes-broken k e l m r q =
+      known (record { run = ended s (verdict.Description k); out = out }) r
+      (through-halts (rowUnder d 0) rows size s out (verdict.Description k) (row-broken d k e 0 s (take size rows) out) refl l m) q (omega arith) (omega arith)
+
+  -- ---- the records on tables
+  pub comes-on : {h : Head} {t lits : List ℕ} → checked d ≡ Accepted → h ≡ headOf d → t ≡ table d → lits ≡ literals d → (r : Run) (new : List ℕ) → Comes (through (rowOn h t lits 0) rows size s out) r new rows → Comes (generateAll d rows size s out) r new rows
+  comes-on e eh et el r new x = rw (through-same (rowUnder d 0) (rowOn (headOf d) (table d) (literals d) 0) (row-on d e 0) rows size s out) (rw (eh, et, el) at x)

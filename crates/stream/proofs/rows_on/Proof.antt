@@ -1,0 +1,60 @@
+-- `stream::rows_on` meets its contract. The invariant: a run from here gives what the run from the start gives.
+-- Assumes nothing.
+use Prim.Native.Nat.{_-_}
+use mathlib.Core.Path.{refl, sym, _∙_}
+use native.Mathlib.Omega.{arith}
+use borrow.Author.Needs.{needs}
+use Rattle.stream.specs.Run.{rowOn}
+use Rattle.stream.proofs.Laws.{row-fits, here, Underway, underway-start, underway-end, underway-done, underway-next, underway-halt, room-left}
+use Rattle.stream.proofs.rows_on.Statement.{statement}
+use Rattle.stream.proofs.rows_on.Tie as tie
+
+abbrev Inv-loop : tie.InvT-loop
+Inv-loop t h lits detail rows size out₀ n state₀ k₀ at₀ verdict₀ out state k at verdict = Underway (rowOn h t lits detail) (row-fits h t lits detail) rows size state₀ out₀ (here k at verdict state out)
+
+abbrev μ-loop : tie.MeasureT-loop
+μ-loop t h lits detail rows size out₀ n state₀ k₀ at₀ verdict₀ out state k at verdict = n - k
+
+-- the record that the loop is at ends inside the rows, and its lines inside the output
+add-k : tie.Need-add-k Inv-loop μ-loop
+add-k c = omega (arith, c .before .before .before .before .before .before .before .before .before .before .before .before .before .before .before .good)
+
+add-at : tie.Need-add-at Inv-loop μ-loop
+add-at c =
+    let l = room-left _ _ _ _ _ _ _ (c .before .before .before .before .before .before .before .before .before .before .loop .inv) (omega arith) (omega arith) (c .before .before .before .before .before .before .call-on .ensures) (omega arith) in
+    omega (arith, c .before .before .before .before .before .before .before .before .before .before .before .before .before .before .before .before .good)
+
+loop-again : tie.Need-loop-again Inv-loop μ-loop
+loop-again c =
+    underway-next _ _ _ _ _ _ _ (c .before .before .before .before .before .before .before .before .before .before .loop .inv) (omega arith) (omega arith) (c .before .before .before .before .before .before .call-on .ensures) (omega arith) (sym (c .before .before .before .number .ensures) ∙ c .before .before .if2 .left)
+
+returns-3 : tie.Need-returns-3 Inv-loop μ-loop
+returns-3 c =
+    underway-halt _ _ _ _ _ _ _ (c .before .before .before .before .before .before .before .before .loop .inv) (omega arith) (omega arith) (c .before .before .before .before .call-on .ensures) (omega arith) (λ z. c .if2 .taken (c .before .number .ensures ∙ z))
+
+pub rows-on-spec : {M : Type 1} → statement M
+rows-on-spec =
+    tie.close
+    (tie.spec
+    Inv-loop
+    μ-loop
+    (λ c. underway-end _ (row-fits _ _ _ _) _ _ _ _ _ (underway-start _ _ _ _ _ _) (rw (c .if1 .taken) refl))
+    (λ c. underway-start _ _ _ _ _ _)
+    (λ c. omega arith)
+    (λ c. omega arith)
+    (λ c. omega arith)
+    (λ c. omega arith)
+    (λ c. omega arith)
+    (λ c. omega arith)
+    (λ c. omega arith)
+    (λ c. omega arith)
+    (λ c κs. search needs)
+    (λ c κs. search needs)
+    add-k
+    add-at
+    (λ c. omega arith)
+    loop-again
+    (λ c. omega arith)
+    (λ c. underway-done _ _ _ _ _ _ _ (c .before .loop .inv) (omega arith))
+    (λ c. omega arith)
+    returns-3)
