@@ -19,7 +19,7 @@ use Rattle.report.specs.Calls.{call}
 use Rattle.stream.specs.declared.Run.{Run}
 use Rattle.stream.specs.Run.{Ran, goes, begun, through, rowOn, Comes}
 use Rattle.stream.proofs.Laws.{through-same, through-none, through-halts}
-use Rattle.batch.specs.Batch.{rowUnder, ended, generateAll}
+use Rattle.batch.specs.Batch.{rowUnder, stopped, generateAll}
 
 -- ---- one record
 row-on : (d : List ℕ) → checked d ≡ Accepted → (detail : ℕ) (s : State) (row o : List ℕ) → rowUnder d detail s row o ≡ rowOn (headOf d) (table d) (literals d) detail s row o
@@ -42,19 +42,19 @@ module _ (d rows : List ℕ) (size : ℕ) (s : State) (out : List ℕ) where
   none-left : length rows < size → goes rows size (begun s out) ≡ false
   none-left l = simp (lt-leb (0 + size) (length rows) (omega arith), and-false)
 
-  comes-none : goes rows size (begun s out) ≡ false → (r : Run) → r ≡ ended s verdict.Accepted → Comes (generateAll d rows size s out) r out rows
+  comes-none : goes rows size (begun s out) ≡ false → (r : Run) → r ≡ stopped s verdict.Accepted → Comes (generateAll d rows size s out) r out rows
   comes-none n r q = known (begun s out) r (through-none (rowUnder d 0) rows size s out n) q (omega arith) (omega arith)
 
-  pub comes-unsized : size ≡ 0 → (r : Run) → r ≡ ended s verdict.Accepted → Comes (generateAll d rows size s out) r out rows
+  pub comes-unsized : size ≡ 0 → (r : Run) → r ≡ stopped s verdict.Accepted → Comes (generateAll d rows size s out) r out rows
   comes-unsized e = comes-none (none-sized e)
 
-  pub comes-short : length rows < size → (r : Run) → r ≡ ended s verdict.Accepted → Comes (generateAll d rows size s out) r out rows
+  pub comes-short : length rows < size → (r : Run) → r ≡ stopped s verdict.Accepted → Comes (generateAll d rows size s out) r out rows
   comes-short l = comes-none (none-left l)
 
   -- ---- refusal 1
-  pub comes-broken : (k : ℕ) → checked d ≡ Broken k → 1 ≤ size → size ≤ length rows → (r : Run) → r ≡ ended s (verdict.Description k) → Comes (generateAll d rows size s out) r out rows
+  pub comes-broken : (k : ℕ) → checked d ≡ Broken k → 1 ≤ size → size ≤ length rows → (r : Run) → r ≡ stopped s (verdict.Description k) → Comes (generateAll d rows size s out) r out rows
   comes-broken k e l m r q =
-      known (record { run = ended s (verdict.Description k); out = out }) r
+      known (record { run = stopped s (verdict.Description k); out = out }) r
       (through-halts (rowUnder d 0) rows size s out (verdict.Description k) (row-broken d k e 0 s (take size rows) out) refl l m) q (omega arith) (omega arith)
 
   -- ---- the records on tables

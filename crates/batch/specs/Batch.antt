@@ -12,8 +12,8 @@ abbrev pub rowUnder : List ℕ → ℕ → One
 rowUnder d detail s row out = generate d s detail row out
 
 -- a run that ends before its first record
-abbrev pub ended : State → Verdict → Run
-ended s v = record { done = 0; count = 0; verdict = v; state = s }
+abbrev pub stopped : State → Verdict → Run
+stopped s v = record { done = 0; count = 0; verdict = v; state = s }
 
 -- "all rows as detail 0"
 abbrev pub generateAll : List ℕ → List ℕ → ℕ → State → List ℕ → Ran

@@ -4,7 +4,7 @@ ghost use mathlib.Core.Path.{_≡_};
 ghost use lib.ListN.{length};
 ghost use Rattle.description.specs.Facts.{TableRoom};
 ghost use Rattle.stream.specs.Run.{Comes};
-ghost use Rattle.batch.specs.Batch.{generateAll, ended};
+ghost use Rattle.batch.specs.Batch.{generateAll, stopped};
 use description::Checked;
 use state::State;
 use stream::Run;
@@ -13,8 +13,8 @@ use unpacked::Opened;
 use verdict::Verdict;
 
 // A run that ends before its first record.
-fn ended_at(s: State, verdict: Verdict) -> Run
-    ensures { λ r. ⌜ r ≡ ended s verdict ⌝ }
+fn stop(s: State, verdict: Verdict) -> Run
+    ensures { λ r. ⌜ r ≡ stopped s verdict ⌝ }
 {
     Run {
         done: 0,
@@ -39,7 +39,7 @@ fn generate_in(
 {
     let checked = description::check_in(d, h, t);
     match checked {
-        Checked::Broken(rule) => ended_at(s, Verdict::Description(rule)),
+        Checked::Broken(rule) => stop(s, Verdict::Description(rule)),
         Checked::Accepted => {
             stream::rows_on(t, h, description::literals_of(d), s, 0, rows, size, out)
         }
@@ -51,13 +51,13 @@ pub fn generate_all(d: &[u8], rows: &[u8], size: usize, s: State, out: &mut [u8]
     ensures { λ r. ⌜ Comes (generateAll (now (d .entry)) (now (rows .entry)) size s (now (out .entry))) r (now (out .exit)) (now (rows .entry)) ⌝ }
 {
     if size == 0 {
-        return ended_at(s, Verdict::Accepted);
+        return stop(s, Verdict::Accepted);
     }
     if rows.len() < size {
-        return ended_at(s, Verdict::Accepted);
+        return stop(s, Verdict::Accepted);
     }
     let Opened::With(h) = unpacked::opening_of(d) else {
-        return ended_at(s, Verdict::Description(1));
+        return stop(s, Verdict::Description(1));
     };
     let n = unpacked::numbers_of(h);
     let mut t = [unpacked::UNSET; unpacked::NUMBERS_MAX];

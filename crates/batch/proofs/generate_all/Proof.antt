@@ -25,14 +25,14 @@ generate-all-spec =
     tie.close
     (tie.spec
     (λ c κs. search needs)
-    (λ c. comes-unsized _ _ _ _ _ (c .before .if1 .taken) _ (c .ended-at .ensures))
+    (λ c. comes-unsized _ _ _ _ _ (c .before .if1 .taken) _ (c .stop .ensures))
     (λ c κs. search needs)
-    (λ c. comes-short _ _ _ _ _ (c .before .if2 .taken) _ (c .ended-at2 .ensures))
+    (λ c. comes-short _ _ _ _ _ (c .before .if2 .taken) _ (c .stop2 .ensures))
     (λ c κs. search needs)
     (λ c. search needs)
     (λ c. search needs)
     (λ c κs. search needs)
-    (λ c. comes-broken _ _ _ _ _ _ (d1-broken _ (broken _ (c .before .before .before .opening-of .ensures) (c .before .enum-told .given .1))) (omega arith) (omega arith) _ (c .ended-at3 .ensures))
+    (λ c. comes-broken _ _ _ _ _ _ (d1-broken _ (broken _ (c .before .before .before .opening-of .ensures) (c .before .enum-told .given .1))) (omega arith) (omega arith) _ (c .stop3 .ensures))
     (λ c κs. search needs)
     fits
     (λ c. sym (front _ numbersMax 1 (fits (c .before))))

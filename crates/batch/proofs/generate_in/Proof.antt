@@ -24,7 +24,7 @@ rows-on-requires c κs =
 returns : tie.Need-returns
 returns c =
     let k = c .before .before .before .before .before .before in
-    comes-broken _ _ _ _ _ _ (sym (k .check-in .ensures .0) ∙ c .before .before .checked .given .1) (start k .pre .1 .0) (start k .pre .1 .1) _ (c .ended-at .ensures)
+    comes-broken _ _ _ _ _ _ (sym (k .check-in .ensures .0) ∙ c .before .before .checked .given .1) (start k .pre .1 .0) (start k .pre .1 .1) _ (c .stop .ensures)
 
 returns-2 : tie.Need-returns-2
 returns-2 c =
