@@ -11,13 +11,28 @@ use Rattle.state_bytes.proofs.Laws.{splice-three, length-bytesOf}
 use Rattle.state_bytes.proofs.encode.Statement.{statement}
 use Rattle.state_bytes.proofs.encode.Tie as tie
 
+-- from the arrays back to the marks, from there to the place, and from there to the start
+abbrev marked : tie.After-put-arrays → tie.After-put-marks
+marked a = a .before .before .before .before .before .before .before
+
+abbrev placed : tie.After-put-marks → tie.After-put-place
+placed m = m .before .before .before .before
+
+abbrev start : tie.After-put-place → tie.Start
+start p = p .before .before .before .before .before .before
+
+-- the sizes of the state, by its type
+sized : (s : tie.Start) → Sized (s .args .s)
+sized s = search needs
+
 returns : tie.Need-returns
 unfolding bytesOf bytes
 returns c =
-    let a = c .before .before .before .before .before .before .before .before .before .before .before .before .before .before .before .before .before .before .before .args in
-    let z : Sized (a .s) = search needs in
-    splice-three (a .out .now) _ _ _ _ _ _ (c .before .before .before .before .before .before .before .before .before .before .before .before .before .put-place .ensures) (c .before .before .before .before .before .before .before .before .before .put-marks .ensures) (c .before .before .put-arrays .ensures) refl refl (omega arith)
-    ∙ splice-whole (a .out .now) (bytesOf (a .s)) (length-bytesOf (a .s) z ∙ sym (c .before .before .before .before .before .before .before .before .before .before .before .before .before .before .before .before .before .before .before .pre))
+    let m = marked (c .before .before) in
+    let s = start (placed m) in
+    let a = s .args in
+    splice-three (a .out .now) _ _ _ _ _ _ (placed m .put-place .ensures) (m .put-marks .ensures) (c .before .before .put-arrays .ensures) refl refl (omega arith)
+    ∙ splice-whole (a .out .now) (bytesOf (a .s)) (length-bytesOf (a .s) (sized s) ∙ sym (s .pre))
 
 pub encode-spec : {M : Type 1} → statement M
 encode-spec =
