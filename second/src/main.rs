@@ -4,17 +4,19 @@ use std::fs::File;
 use std::io::{self, BufReader, BufWriter, Read, Write};
 use std::process::exit;
 
+use second::feeder::{self, Feeder, LONGEST_CHUNK};
 use second::report::{generate, initiate, terminate, Answer};
 use second::state::State;
 use second::{cases, description, source};
 
 const USAGE: &str = "\
-second: document 01 a second time, on its own
+second: document 01, and R-1 of document 02, a second time, on its own
 
 usage: second COMMAND ...
 
   second check DESCRIPTION                    says whether a description keeps D1 to D8
   second print DESCRIPTION RECORDS [-o OUT]   prints the sheet of a record file
+  second feed DESCRIPTION [-n N] [-o OUT]     prints the sheet of standard input, fed in pieces
   second build SOURCE OUT                     makes a description from its text source
   second cases ...                            random cases
 
@@ -33,6 +35,15 @@ usage: second print DESCRIPTION RECORDS [-o OUT]
 INITIATE, GENERATE every row as detail 0, TERMINATE. RECORDS holds rows back to back, each as long as the
 description says. The sheet goes to standard output or to OUT. A refusal ends the run; what was printed
 before it stands.
+";
+
+const FEED_USAGE: &str = "\
+usage: second feed DESCRIPTION [-n N] [-o OUT]
+
+INITIATE, the bytes of standard input through the feeder, TERMINATE; every row as detail 0. A piece is what one
+read gives, at most N bytes (1 to 4096, else 4096), cut anywhere; its rows are printed before the next is read. The
+sheet, to standard output or to OUT, is the one that `second print` gives. A refusal ends the run; what was printed
+before it stands. Input that ends within a row is refusal 10, with the count of that row's bytes.
 ";
 
 const BUILD_USAGE: &str = "\
@@ -59,6 +70,7 @@ fn main() {
         Some("--help" | "-h" | "help") => show(USAGE),
         Some("check") => check(args_of_command),
         Some("print") => print(args_of_command),
+        Some("feed") => feed(args_of_command),
         Some("build") => build(args_of_command),
         _ => Err(Failure::Usage(USAGE)),
     };
@@ -142,13 +154,60 @@ fn print(args: &[String]) -> Result<(), Failure> {
     let description = read(description)?;
     let input = File::open(records).map_err(|error| failed(records, error))?;
     let rows = Rows { input: BufReader::new(input), name: records };
-    match out {
-        None => print_sheet(&description, rows, Output { to: io::stdout().lock(), name: "standard output" }),
-        Some(name) => {
-            let file = File::create(name).map_err(|error| failed(name, error))?;
-            print_sheet(&description, rows, Output { to: file, name })
+    with_output(out, |output| print_rows(&description, rows, output))
+}
+
+fn feed(args: &[String]) -> Result<(), Failure> {
+    if wants_help(args) {
+        return show(FEED_USAGE);
+    }
+    let (mut description, mut longest, mut out) = (None, LONGEST_CHUNK, None);
+    let mut words = args.iter().map(String::as_str);
+    while let Some(word) = words.next() {
+        match word {
+            "-n" => longest = words.next().and_then(chunk_length).ok_or(Failure::Usage(FEED_USAGE))?,
+            "-o" => out = Some(words.next().ok_or(Failure::Usage(FEED_USAGE))?),
+            _ if description.is_none() => description = Some(word),
+            _ => return Err(Failure::Usage(FEED_USAGE)),
         }
     }
+    let description = read(description.ok_or(Failure::Usage(FEED_USAGE))?)?;
+    with_output(out, |output| feed_pieces(&description, longest, output))
+}
+
+fn chunk_length(word: &str) -> Option<usize> {
+    word.parse().ok().filter(|length| (1..=LONGEST_CHUNK).contains(length))
+}
+
+/// Where the sheet goes.
+struct Output<'a> {
+    to: BufWriter<Box<dyn Write>>,
+    name: &'a str,
+}
+
+impl Output<'_> {
+    fn write(&mut self, bytes: &[u8]) -> Result<(), Failure> {
+        self.to.write_all(bytes).map_err(|error| failed(self.name, error))
+    }
+
+    fn flush(&mut self) -> Result<(), Failure> {
+        self.to.flush().map_err(|error| failed(self.name, error))
+    }
+}
+
+/// Lends an output: OUT or standard output. What was printed before a failure is handed on too.
+fn with_output(
+    out: Option<&str>,
+    print: impl FnOnce(&mut Output) -> Result<(), Failure>,
+) -> Result<(), Failure> {
+    let to: Box<dyn Write> = match out {
+        None => Box::new(io::stdout()),
+        Some(name) => Box::new(File::create(name).map_err(|error| failed(name, error))?),
+    };
+    let mut output = Output { to: BufWriter::new(to), name: out.unwrap_or("standard output") };
+    let outcome = print(&mut output);
+    let flushed = output.flush();
+    outcome.and(flushed)
 }
 
 /// The record file, read row by row.
@@ -167,29 +226,12 @@ impl Rows<'_> {
     }
 }
 
-/// Where the sheet goes.
-struct Output<'a, T: Write> {
-    to: T,
-    name: &'a str,
-}
-
-/// INITIATE, GENERATE every row as detail 0, TERMINATE. What was printed before a failure is handed on too.
-fn print_sheet<T: Write>(description: &[u8], rows: Rows, output: Output<T>) -> Result<(), Failure> {
-    let mut to = BufWriter::new(output.to);
-    let outcome = print_rows(description, rows, output.name, &mut to);
-    let flushed = to.flush().map_err(|error| failed(output.name, error));
-    outcome.and(flushed)
-}
-
-fn print_rows(
-    description: &[u8],
-    mut rows: Rows,
-    out_name: &str,
-    to: &mut impl Write,
-) -> Result<(), Failure> {
+/// INITIATE, GENERATE every row as detail 0, TERMINATE.
+fn print_rows(description: &[u8], mut rows: Rows, output: &mut Output) -> Result<(), Failure> {
     let answer = initiate(description, &State::fresh());
-    let mut state = accepted(answer, "INITIATE")?.state;
-    let record_length = description::check(description).map_or(0, |description| description.r);
+    accepted(answer.number, answer.extra, "INITIATE")?;
+    let mut state = answer.state;
+    let record_length = record_length(description);
     let mut out = vec![0; 1 << 16];
     for number in 1u64.. {
         let row = rows.next(record_length)?;
@@ -203,8 +245,8 @@ fn print_rows(
             let answer = with_room(&mut out, |out| generate(description, &state, 0, &row, out));
             (format!("GENERATE of row {number}"), answer)
         };
-        let answer = accepted(answer, &call)?;
-        to.write_all(&out[..answer.count]).map_err(|error| failed(out_name, error))?;
+        accepted(answer.number, answer.extra, &call)?;
+        output.write(&out[..answer.count])?;
         if row.is_empty() {
             break;
         }
@@ -224,10 +266,94 @@ fn with_room(out: &mut Vec<u8>, call: impl Fn(&mut [u8]) -> Answer) -> Answer {
     }
 }
 
-fn accepted(answer: Answer, call: &str) -> Result<Answer, Failure> {
-    if answer.number == 0 {
-        return Ok(answer);
+fn accepted(number: u8, extra: u32, call: &str) -> Result<(), Failure> {
+    if number == 0 {
+        return Ok(());
     }
-    let Answer { number, extra, .. } = answer;
     Err(Failure::Line(format!("second: {call} refused: refusal {number}, extra number {extra}")))
+}
+
+/// The length of a record; 0 under no description.
+fn record_length(description: &[u8]) -> u16 {
+    description::check(description).map_or(0, |description| description.r)
+}
+
+/// INITIATE, the bytes of standard input through the feeder, TERMINATE.
+fn feed_pieces(description: &[u8], longest: usize, output: &mut Output) -> Result<(), Failure> {
+    let answer = feeder::initiate(description, &Feeder::fresh(0));
+    accepted(answer.number, answer.extra, "INITIATE")?;
+    let mut fed = Fed { description, feeder: answer.feeder, taken: 0, out: vec![0; 1 << 16], output };
+    let mut piece = vec![0; longest];
+    loop {
+        let length = read_piece(&mut piece)?;
+        if length == 0 {
+            return fed.terminate();
+        }
+        fed.feed(&piece[..length])?;
+        // The next piece may be long in coming.
+        fed.output.flush()?;
+    }
+}
+
+/// One read of standard input; 0 at its end.
+fn read_piece(piece: &mut [u8]) -> Result<usize, Failure> {
+    loop {
+        match io::stdin().read(piece) {
+            Err(error) if error.kind() == io::ErrorKind::Interrupted => {}
+            outcome => return outcome.map_err(|error| failed("standard input", error)),
+        }
+    }
+}
+
+/// A feeder with its output.
+struct Fed<'a, 'b> {
+    description: &'a [u8],
+    feeder: Feeder,
+    /// Bytes taken of all pieces.
+    taken: usize,
+    out: Vec<u8>,
+    output: &'a mut Output<'b>,
+}
+
+impl Fed<'_, '_> {
+    /// The rows whose bytes are all taken.
+    fn rows(&self) -> usize {
+        self.taken / usize::from(record_length(self.description))
+    }
+
+    fn feed(&mut self, piece: &[u8]) -> Result<(), Failure> {
+        let mut rest = piece;
+        while !rest.is_empty() {
+            let answer = feeder::feed(self.description, &self.feeder, rest, &mut self.out);
+            self.output.write(&self.out[..answer.printed])?;
+            self.feeder = answer.feeder;
+            self.taken += answer.taken;
+            rest = &rest[answer.taken..];
+            match answer.number {
+                // The row had all of the output and wants more.
+                9 if answer.printed == 0 => self.double(),
+                // It is tried again with all of the output.
+                9 => {}
+                number => accepted(number, answer.extra, &format!("GENERATE of row {}", self.rows() + 1))?,
+            }
+        }
+        Ok(())
+    }
+
+    fn terminate(mut self) -> Result<(), Failure> {
+        if self.taken == 0 {
+            return Err(Failure::Line("second: standard input is empty".to_string()));
+        }
+        let mut answer = feeder::terminate(self.description, &self.feeder, &mut self.out);
+        while answer.number == 9 {
+            self.double();
+            answer = feeder::terminate(self.description, &self.feeder, &mut self.out);
+        }
+        accepted(answer.number, answer.extra, &format!("TERMINATE after row {}", self.rows()))?;
+        self.output.write(&self.out[..answer.printed])
+    }
+
+    fn double(&mut self) {
+        self.out.resize(2 * self.out.len(), 0);
+    }
 }

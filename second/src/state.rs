@@ -131,6 +131,7 @@ pub fn sum_is_in_range(sum: i64) -> bool {
     (-SUM_LIMIT..=SUM_LIMIT).contains(&sum)
 }
 
-fn bytes_at<const N: usize>(bytes: &[u8; STATE_BYTES], start: usize) -> [u8; N] {
+/// `N` bytes from a place on.
+pub fn bytes_at<const N: usize>(bytes: &[u8], start: usize) -> [u8; N] {
     std::array::from_fn(|i| bytes[start + i])
 }

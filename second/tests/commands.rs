@@ -2,8 +2,9 @@
 
 mod common;
 
+use std::io::Write;
 use std::path::{Path, PathBuf};
-use std::process::Command;
+use std::process::{Command, Stdio};
 
 use common::{sheet_bytes, whole_run, WHOLE_RUN_ROWS, WHOLE_RUN_SHEET};
 use second::builder::Builder;
@@ -19,8 +20,18 @@ fn directory(test: &str) -> PathBuf {
 
 /// Exit code, standard output and standard error of a run in a directory.
 fn run(directory: &Path, args: &[&str]) -> (i32, Vec<u8>, String) {
-    let output =
-        Command::new(env!("CARGO_BIN_EXE_second")).args(args).current_dir(directory).output().unwrap();
+    run_with(directory, args, b"")
+}
+
+/// The same, with this standard input.
+fn run_with(directory: &Path, args: &[&str], input: &[u8]) -> (i32, Vec<u8>, String) {
+    let mut command = Command::new(env!("CARGO_BIN_EXE_second"));
+    command.args(args).current_dir(directory);
+    let pipes = command.stdin(Stdio::piped()).stdout(Stdio::piped()).stderr(Stdio::piped());
+    let mut child = pipes.spawn().unwrap();
+    // A run that ends before it has read all leaves a broken pipe.
+    let _ = child.stdin.take().unwrap().write_all(input);
+    let output = child.wait_with_output().unwrap();
     (output.status.code().unwrap(), output.stdout, String::from_utf8(output.stderr).unwrap())
 }
 
@@ -31,7 +42,11 @@ fn fails(directory: &Path, args: &[&str], code: i32, words: &str) {
 
 /// The same, after some output.
 fn fails_after(directory: &Path, args: &[&str], code: i32, printed: &[u8], words: &str) {
-    let (exit, out, error) = run(directory, args);
+    failed_after(run(directory, args), args, code, printed, words);
+}
+
+fn failed_after(ran: (i32, Vec<u8>, String), args: &[&str], code: i32, printed: &[u8], words: &str) {
+    let (exit, out, error) = ran;
     assert_eq!(exit, code, "{args:?}: {error}");
     assert_eq!(String::from_utf8_lossy(&out), String::from_utf8_lossy(printed), "{args:?}");
     assert_eq!(error.lines().count(), 1, "{args:?}: {error}");
@@ -56,6 +71,7 @@ fn help_is_given() {
         &["help"],
         &["check", "--help"],
         &["print", "--help"],
+        &["feed", "--help"],
         &["build", "--help"],
     ] {
         let (code, out, error) = run(&path, args);
@@ -78,6 +94,15 @@ fn bad_usage_is_one_line_and_code_2() {
         &["print", "d", "r", "-o"],
         &["print", "d", "-o", "x"],
         &["print", "d", "r", "-o", "x", "y"],
+        &["feed"],
+        &["feed", "d", "r"],
+        &["feed", "d", "-o"],
+        &["feed", "-o", "x"],
+        &["feed", "d", "-n"],
+        &["feed", "d", "-n", "0"],
+        &["feed", "d", "-n", "4097"],
+        &["feed", "d", "-n", "one"],
+        &["feed", "d", "-n", "-1"],
         &["build"],
         &["build", "d"],
         &["build", "d", "x", "y"],
@@ -204,11 +229,59 @@ fn a_call_with_more_lines_than_the_first_output_prints() {
     }
     let path = directory("large");
     std::fs::write(path.join("d"), b.bytes()).unwrap();
-    std::fs::write(path.join("r"), b"aaaaaaaabaaaaaaa").unwrap();
+    let rows = b"aaaaaaaabaaaaaaa";
+    std::fs::write(path.join("r"), rows).unwrap();
     let (code, out, error) = run(&path, &["print", "d", "r"]);
     assert_eq!((code, error.as_str()), (0, ""));
     // 8 + 16 + 8 groups of one line, 31 page changes, the first PH and the last PF.
     assert_eq!(out.len(), (32 + 32 * 32) * 142);
+    for n in ["1", "16"] {
+        assert!(run_with(&path, &["feed", "d", "-n", n], rows) == (0, out.clone(), String::new()));
+    }
+}
+
+#[test]
+fn feed_gives_the_sheet_of_print() {
+    let path = whole_run_directory("feed");
+    let rows = WHOLE_RUN_ROWS.concat();
+    let sheet = sheet_bytes(WHOLE_RUN_SHEET);
+    assert_eq!(run_with(&path, &["feed", "d"], &rows), (0, sheet.clone(), String::new()));
+    for n in ["1", "2", "5", "6", "7", "23", "24", "25", "4096"] {
+        assert_eq!(run_with(&path, &["feed", "d", "-n", n], &rows), (0, sheet.clone(), String::new()));
+        let args = ["feed", "-o", "out", "-n", n, "d"];
+        assert_eq!(run_with(&path, &args, &rows), (0, Vec::new(), String::new()));
+        assert_eq!(std::fs::read(path.join("out")).unwrap(), sheet);
+        std::fs::remove_file(path.join("out")).unwrap();
+    }
+}
+
+#[test]
+fn feed_without_its_files_or_bytes_says_so() {
+    let path = whole_run_directory("feed_files");
+    fails(&path, &["feed", "none"], 1, "second: none: ");
+    fails(&path, &["feed", "."], 1, "second: .: ");
+    fails(&path, &["feed", "empty"], 1, "INITIATE refused: refusal 1, extra number 1");
+    fails(&path, &["feed", "d"], 1, "second: standard input is empty");
+    fails(&path, &["feed", "d", "-o", "no/out"], 1, "second: no/out: ");
+}
+
+#[test]
+fn what_was_printed_before_a_refused_row_of_feed_stands() {
+    let path = whole_run_directory("feed_rows");
+    let sheet = sheet_bytes(WHOLE_RUN_SHEET);
+    let rows = WHOLE_RUN_ROWS.concat();
+    let mut wrong = rows.clone();
+    wrong[15] = b'x';
+    for n in ["1", "4", "6", "9", "4096"] {
+        let args = ["feed", "d", "-n", n];
+        let refused = |rows: &[u8], printed: usize, words: &str| {
+            failed_after(run_with(&path, &args, rows), &args, 1, &sheet[..printed], words);
+        };
+        refused(&wrong, 66, "GENERATE of row 3 refused: refusal 6, extra number 1");
+        // Bytes are left over at the end.
+        refused(&rows[..5], 0, "TERMINATE after row 0 refused: refusal 10, extra number 5");
+        refused(&rows[..13], 66, "TERMINATE after row 2 refused: refusal 10, extra number 1");
+    }
 }
 
 #[test]

@@ -3,7 +3,7 @@
 use std::fs;
 use std::path::Path;
 
-const ORDER: [&str; 13] = [
+const ORDER: [&str; 14] = [
     "tables",
     "starts",
     "description",
@@ -14,6 +14,7 @@ const ORDER: [&str; 13] = [
     "place",
     "print",
     "report",
+    "feeder",
     "builder",
     "source",
     "cases",

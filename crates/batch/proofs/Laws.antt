@@ -30,6 +30,10 @@ row-broken : (d : List ℕ) (k : ℕ) → checked d ≡ Broken k → (detail : �
 unfolding call
 row-broken d k e detail s row o = rw e refl
 
+-- many records
+pub through-on : (d : List ℕ) → checked d ≡ Accepted → (detail : ℕ) (rows : List ℕ) (size : ℕ) (s : State) (out : List ℕ) → through (rowUnder d detail) rows size s out ≡ through (rowOn (headOf d) (table d) (literals d) detail) rows size s out
+through-on d e detail = through-same (rowUnder d detail) (rowOn (headOf d) (table d) (literals d) detail) (row-on d e detail)
+
 module _ (d rows : List ℕ) (size : ℕ) (s : State) (out : List ℕ) where
   -- a run that is known comes to what it leaves
   known : (x : Ran) (r : Run) → generateAll d rows size s out ≡ x → r ≡ x .run → x .run .done ≤ length rows → x .run .count ≤ length (x .out) → Comes (generateAll d rows size s out) r (x .out) rows
@@ -59,4 +63,4 @@ module _ (d rows : List ℕ) (size : ℕ) (s : State) (out : List ℕ) where
 
   -- ---- the records on tables
   pub comes-on : {h : Head} {t lits : List ℕ} → checked d ≡ Accepted → h ≡ headOf d → t ≡ table d → lits ≡ literals d → (r : Run) (new : List ℕ) → Comes (through (rowOn h t lits 0) rows size s out) r new rows → Comes (generateAll d rows size s out) r new rows
-  comes-on e eh et el r new x = rw (through-same (rowUnder d 0) (rowOn (headOf d) (table d) (literals d) 0) (row-on d e 0) rows size s out) (rw (eh, et, el) at x)
+  comes-on e eh et el r new x = rw (through-on d e 0 rows size s out) (rw (eh, et, el) at x)

@@ -1,0 +1,2 @@
+-- Demand 3 for the calls of a feeder.
+pub mod Demand
