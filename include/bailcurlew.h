@@ -1,19 +1,23 @@
-/* The calls of Bailcurlew for C: CHECK, INITIATE, GENERATE and TERMINATE. docs/ABI.md tells more.
+/* The calls of Bailcurlew for C: CHECK, INITIATE, GENERATE and TERMINATE, and the feeder, which takes the records
+ * in pieces cut anywhere. docs/ABI.md tells more.
  *
- * Link with target/staticlib/libreport_c.a. No call allocates, keeps a pointer or needs anything checked
- * beforehand: any bytes are taken as description, state and record. What the caller must guarantee:
+ * Link with target/staticlib/libreport_c.a (-lreport_c); for the calls of the feeder also, or only, with
+ * target/staticlib/libfeeder_c.a (-lfeeder_c). No call allocates, keeps a pointer or needs anything checked
+ * beforehand: any bytes are taken as description, state, record, feeder and chunk. What the caller must guarantee:
  *
  * - No pointer is NULL, also where its length is 0; a pointer with length 0 is never read or written through
  *   and may point anywhere else.
- * - `description`, `record` and `output` point to as many bytes as the length beside them says (`length`,
- *   `record_length`, `room`), at most PTRDIFF_MAX; `state` to BAILCURLEW_STATE bytes; `answer` to three
- *   uint64_t, aligned as such. They stay valid, and nobody else writes them, until the call returns.
- * - What a call writes (`state`, `output`, `answer`) overlaps nothing else that it is lent. `description` and
- *   `record` are only read and may overlap each other.
+ * - `description`, `record`, `chunk` and `output` point to as many bytes as the length beside them says (`length`,
+ *   `record_length`, `chunk_length`, `room`), at most PTRDIFF_MAX; `state` to BAILCURLEW_STATE bytes, `feeder` to
+ *   BAILCURLEW_FEEDER; `answer` to three uint64_t, for the feeder's calls to four, aligned as such. They stay
+ *   valid, and nobody else writes them, until the call returns.
+ * - What a call writes (`state`, `feeder`, `output`, `answer`) overlaps nothing else that it is lent.
+ *   `description`, `record` and `chunk` are only read and may overlap each other.
  *
  * Length 0 is an answer like any other: an empty description breaks rule 1 (refusal 1, extra number 1); an empty
- * record has not the described length (refusal 5, unless 1 to 4 come first); without room a call that prints
- * nothing is accepted, and one that prints is refused with 9. `output` and `answer` need not be set beforehand.
+ * record has not the described length (refusal 5, unless 1 to 4 come first); an empty chunk is refused with 18;
+ * without room a call that prints nothing is accepted, and one that prints is refused with 9. `output` and
+ * `answer` need not be set beforehand.
  *
  * Stack: a call needs less than 32 KiB (measured, docs/AUDIT.md).
  */
@@ -32,12 +36,21 @@ extern "C" {
  * complement), kept record 256 at 274. */
 #define BAILCURLEW_STATE 530
 
+/* Bytes of a feeder: its state at 0, the detail number 8 at 530, how many bytes of an unfinished record it holds
+ * 2 at 538, those bytes at the front of 256 at 540. */
+#define BAILCURLEW_FEEDER 796
+
+/* The most bytes of a chunk. */
+#define BAILCURLEW_CHUNK 4096
+
 /* Places in an answer. */
 #define BAILCURLEW_NUMBER 0 /* 0 accepted, else the refusal's number */
 #define BAILCURLEW_EXTRA 1  /* the refusal's extra number, else 0 */
 #define BAILCURLEW_COUNT 2  /* bytes written to the output */
+#define BAILCURLEW_TAKEN 3  /* bytes taken of the chunk; the feeder's calls only */
 
-/* The refusals, in the order in which they are tried. */
+/* The refusals. 1 to 9 are tried in this order; 18 before 1, 10 after 3. 5 is GENERATE's alone, 10 and 18 are the
+ * feeder's. */
 enum bailcurlew_refusal {
     BAILCURLEW_ACCEPTED = 0,
     BAILCURLEW_DESCRIPTION = 1, /* the description breaks a rule; extra: the first one, 1 to 8 */
@@ -48,7 +61,9 @@ enum bailcurlew_refusal {
     BAILCURLEW_MALFORMED = 6,   /* a field's bytes are malformed; extra: the first such field, from 0 */
     BAILCURLEW_SUM = 7,         /* an addition would leave the sum range */
     BAILCURLEW_PAGE = 8,        /* a page change would pass page 999,999 */
-    BAILCURLEW_ROOM = 9         /* the output is shorter than the call's lines need */
+    BAILCURLEW_ROOM = 9,        /* the output is shorter than the call's lines need */
+    BAILCURLEW_UNFINISHED = 10, /* the feeder's TERMINATE with bytes held; extra: how many */
+    BAILCURLEW_BAD_CHUNK = 18   /* a chunk of 0 bytes or of over BAILCURLEW_CHUNK */
 };
 
 /* CHECK: 0 where the description is accepted, else the first broken rule, 1 to 8. */
@@ -72,6 +87,36 @@ void bailcurlew_generate(const uint8_t *description, size_t length, uint8_t stat
 /* TERMINATE ends the report: the footings still due. */
 void bailcurlew_terminate(const uint8_t *description, size_t length, uint8_t state[BAILCURLEW_STATE],
                           uint8_t *output, size_t room, uint64_t answer[3]);
+
+/* ---- the feeder: a report whose records come in pieces */
+
+/* Writes a fresh feeder: a fresh state, no bytes held. All its records are detail number `detail`, counted from 0;
+ * a number that names none is refused by bailcurlew_feeder_feed. */
+void bailcurlew_feeder_fresh(size_t detail, uint8_t feeder[BAILCURLEW_FEEDER]);
+
+/* The three calls below answer in `answer`, with the bytes taken in its fourth place; only
+ * bailcurlew_feeder_feed takes any. Accepted, `feeder` becomes the next feeder; refused with none taken, it stays as
+ * it was. The first count bytes of `output` are the lines printed, all bytes behind them stay as they were. */
+
+/* INITIATE begins a report; it prints nothing, and no bytes are held afterwards. Refusals: 1, 2, 3. */
+void bailcurlew_feeder_initiate(const uint8_t *description, size_t length, uint8_t feeder[BAILCURLEW_FEEDER],
+                                uint64_t answer[4]);
+
+/* Takes the next 1 to BAILCURLEW_CHUNK bytes: GENERATE of each record that they finish; the bytes of an unfinished
+ * one are held. Refusals: 18, 1, 2, 3, 4 at every chunk, which take nothing; then 6, 7, 8, 9 of a record, which stop
+ * the chunk before it: the records before it stand, with their lines in `output`, and taken counts the bytes of
+ * the chunk in front of the refused record, 0 where an earlier chunk has begun it, whose bytes stay held. Feed the
+ * rest of the chunk (from taken on) to go on, after 9 with an output for the lines still due. */
+void bailcurlew_feeder_feed(const uint8_t *description, size_t length, uint8_t feeder[BAILCURLEW_FEEDER],
+                            const uint8_t *chunk, size_t chunk_length, uint8_t *output, size_t room,
+                            uint64_t answer[4]);
+
+/* Drops the bytes held; all else in the feeder stays. Nothing refuses it. */
+void bailcurlew_feeder_discard(uint8_t feeder[BAILCURLEW_FEEDER]);
+
+/* TERMINATE ends the report: the footings still due. Refusals: 1, 2, 3, 10 while bytes are held, 7, 8, 9. */
+void bailcurlew_feeder_terminate(const uint8_t *description, size_t length, uint8_t feeder[BAILCURLEW_FEEDER],
+                                 uint8_t *output, size_t room, uint64_t answer[4]);
 
 #ifdef __cplusplus
 }

@@ -1,14 +1,18 @@
-//! Links the static library that `rt staticlib report_c` writes; BAILCURLEW_STATICLIB names another folder.
+//! Links the static libraries that `rt staticlib report_c` and `rt staticlib feeder_c` write; BAILCURLEW_STATICLIB names
+//! another folder.
 use std::path::Path;
 
 const FOLDER: &str = "BAILCURLEW_STATICLIB";
+const LIBRARIES: [&str; 2] = ["report_c", "feeder_c"];
 
 fn main() {
     let root = std::env::var("CARGO_MANIFEST_DIR").expect("cargo sets it");
     let default = Path::new(&root).join("../target/staticlib").display().to_string();
     let folder = std::env::var(FOLDER).unwrap_or(default);
     println!("cargo:rustc-link-search=native={folder}");
-    println!("cargo:rustc-link-lib=static=report_c");
     println!("cargo:rerun-if-env-changed={FOLDER}");
-    println!("cargo:rerun-if-changed={folder}/libreport_c.a");
+    for library in LIBRARIES {
+        println!("cargo:rustc-link-lib=static={library}");
+        println!("cargo:rerun-if-changed={folder}/lib{library}.a");
+    }
 }

@@ -9,7 +9,7 @@
  * changes, with a heading and a footing of 16 lines each, for every body group of a call (17); 142 bytes a line. */
 enum { ROOM = (28 * 16 + 17 * 2 * 2 * 16) * 142 };
 
-static size_t read_file(const char *name, uint8_t *bytes, size_t room)
+static inline size_t read_file(const char *name, uint8_t *bytes, size_t room)
 {
     FILE *file = fopen(name, "rb");
     if (file == NULL) {
@@ -22,7 +22,7 @@ static size_t read_file(const char *name, uint8_t *bytes, size_t room)
 }
 
 /* R stands last but one in the trailer. */
-static size_t record_length(const uint8_t *description, size_t length)
+static inline size_t record_length(const uint8_t *description, size_t length)
 {
     return description[length - 4] + 256u * description[length - 3];
 }

@@ -9,9 +9,9 @@
 
 enum { STACK = 1 << 20, PAINT = 0xa5 };
 
-static uint8_t description[65536], records[1 << 20], output[ROOM], state[BAILCURLEW_STATE];
-static uint64_t answer[3];
-static size_t length, step, at;
+static uint8_t description[65536], records[1 << 20], output[ROOM], state[BAILCURLEW_STATE], feeder[BAILCURLEW_FEEDER];
+static uint64_t answer[4];
+static size_t length, step, at, piece;
 static uint8_t *painted;
 
 static void *nothing(void *unused)
@@ -40,6 +40,24 @@ static void *generate(void *unused)
 static void *terminate(void *unused)
 {
     bailcurlew_terminate(description, length, state, output, sizeof output, answer);
+    return unused;
+}
+
+static void *feeder_initiate(void *unused)
+{
+    bailcurlew_feeder_initiate(description, length, feeder, answer);
+    return unused;
+}
+
+static void *feed(void *unused)
+{
+    bailcurlew_feeder_feed(description, length, feeder, records + at, piece, output, sizeof output, answer);
+    return unused;
+}
+
+static void *feeder_terminate(void *unused)
+{
+    bailcurlew_feeder_terminate(description, length, feeder, output, sizeof output, answer);
     return unused;
 }
 
@@ -74,6 +92,25 @@ static size_t accepted(size_t used)
     return used;
 }
 
+/* As `accepted`; a chunk may also stop for want of output behind records that stand. */
+static size_t fed(size_t used)
+{
+    int stopped = answer[BAILCURLEW_NUMBER] == BAILCURLEW_ROOM && answer[BAILCURLEW_TAKEN] > 0;
+    return stopped ? used : accepted(used);
+}
+
+/* The most that feeding the first `end` bytes of the records needs, in chunks of at most `most_bytes`. */
+static size_t fed_in_chunks(size_t end, size_t most_bytes)
+{
+    size_t most = 0;
+    for (at = 0; at < end; at += (size_t)answer[BAILCURLEW_TAKEN]) {
+        piece = end - at < most_bytes ? end - at : most_bytes;
+        size_t now = fed(used(feed));
+        most = now > most ? now : most;
+    }
+    return most;
+}
+
 int main(int argc, char **argv)
 {
     void *memory = NULL;
@@ -97,5 +134,12 @@ int main(int argc, char **argv)
     }
     printf("generate %zu\n", most - base);
     printf("terminate %zu\n", accepted(used(terminate)) - base);
+
+    end -= end % step;
+    bailcurlew_feeder_fresh(0, feeder);
+    printf("feeder initiate %zu\n", accepted(used(feeder_initiate)) - base);
+    most = end > 0 ? fed_in_chunks(end, BAILCURLEW_CHUNK) : base;
+    printf("feeder feed %zu\n", most - base);
+    printf("feeder terminate %zu\n", accepted(used(feeder_terminate)) - base);
     return 0;
 }

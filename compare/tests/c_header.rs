@@ -1,4 +1,4 @@
-//! The header for C: a C program is compiled with it, linked with the library and prints the examples.
+//! The header for C: C programs are compiled with it, linked with the libraries and print the examples.
 
 use std::path::{Path, PathBuf};
 use std::process::{Command, Output};
@@ -18,31 +18,78 @@ fn shown(output: &Output) -> String {
     String::from_utf8_lossy(&output.stderr).into_owned()
 }
 
-/// Where the static library is; BAILCURLEW_STATICLIB names another folder, as for the Rust package.
+/// Where the static libraries are; BAILCURLEW_STATICLIB names another folder, as for the Rust package.
 fn library() -> PathBuf {
     std::env::var_os("BAILCURLEW_STATICLIB").map_or(at("../target/staticlib"), PathBuf::from)
 }
 
-/// Compiles `c/sheet.c`; gives the program.
-fn compiled() -> PathBuf {
-    let program = Path::new(env!("CARGO_TARGET_TMPDIR")).join("c_sheet");
+/// Compiles a program of the folder `c` and links it with the static libraries named; gives the program.
+fn compiled(name: &str, libraries: &[&str]) -> PathBuf {
+    let program = Path::new(env!("CARGO_TARGET_TMPDIR")).join(format!("c_{name}"));
     let mut compiler = Command::new("cc");
-    compiler.args(STRICT).arg("-O2").arg("-I").arg(at("../include")).arg(at("c/sheet.c"));
-    compiler.arg("-L").arg(library()).arg("-lreport_c").arg("-o").arg(&program);
+    compiler.args(STRICT).arg("-O2").arg("-I").arg(at("../include")).arg(at(&format!("c/{name}.c")));
+    compiler.arg("-L").arg(library()).args(libraries).arg("-o").arg(&program);
     let output = run(&mut compiler);
     assert!(output.status.success(), "{}", shown(&output));
     program
 }
 
+fn example(name: &str, kind: &str) -> PathBuf {
+    at(&format!("../examples/{name}.{kind}"))
+}
+
+/// Runs a program on the files of an example and compares what it prints.
+fn prints_the_example(program: &Path, name: &str, more: &[&str]) {
+    let mut command = Command::new(program);
+    command.arg(example(name, "desc")).arg(example(name, "rows")).args(more);
+    let output = run(&mut command);
+    assert!(output.status.success(), "{command:?}: {}", shown(&output));
+    let sheet = std::fs::read(example(name, "sheet")).expect("the example's sheet");
+    assert!(output.stdout == sheet, "{command:?}: {}", String::from_utf8_lossy(&output.stdout));
+}
+
 #[test]
 fn a_c_program_prints_the_examples() {
-    let program = compiled();
+    let program = compiled("sheet", &["-lreport_c"]);
     for name in ["whole_run", "day_sheet"] {
-        let file = |kind: &str| at(&format!("../examples/{name}.{kind}"));
-        let output = run(Command::new(&program).arg(file("desc")).arg(file("rows")));
-        assert!(output.status.success(), "{name}: {}", shown(&output));
-        let sheet = std::fs::read(file("sheet")).expect("the example's sheet");
-        assert!(output.stdout == sheet, "{name}: {}", String::from_utf8_lossy(&output.stdout));
+        prints_the_example(&program, name, &[]);
+    }
+}
+
+/// Both libraries in one program, in either order. In the smaller rooms the lines of one call fit, but not those of a long
+/// chunk, which stops for want of output and is fed on.
+#[test]
+fn a_c_program_feeds_the_examples() {
+    for libraries in [["-lfeeder_c", "-lreport_c"], ["-lreport_c", "-lfeeder_c"]] {
+        let program = compiled("feed", &libraries);
+        for (name, sizes, rooms) in [
+            ("whole_run", ["1", "5", "6", "7", "4096"], ["100000", "44"]),
+            ("day_sheet", ["1", "66", "67", "68", "4096"], ["100000", "900"]),
+        ] {
+            for size in sizes {
+                rooms.iter().for_each(|room| prints_the_example(&program, name, &[size, room]));
+            }
+        }
+    }
+}
+
+/// What the C program says where a chunk is too long, where a record's lines do not fit and where the last is unfinished.
+#[test]
+fn a_c_program_is_told_the_feeders_refusals() {
+    let program = compiled("feed", &["-lreport_c", "-lfeeder_c"]);
+    let unfinished = Path::new(env!("CARGO_TARGET_TMPDIR")).join("unfinished.rows");
+    std::fs::write(&unfinished, b"AA+005AA+0").expect("a temporary file");
+    let whole = example("whole_run", "rows");
+    let long = example("day_sheet", "rows");
+    for (rows, size, room, message) in [
+        (&whole, "0", "200", "feed: refusal 18, extra number 0\n"),
+        (&long, "4097", "200", "feed: refusal 18, extra number 0\n"),
+        (&whole, "4096", "43", "feed: refusal 9, extra number 0\n"),
+        (&unfinished, "4096", "200", "TERMINATE: refusal 10, extra number 4\n"),
+    ] {
+        let mut command = Command::new(&program);
+        let output = run(command.arg(example("whole_run", "desc")).arg(rows).args([size, room]));
+        assert_eq!((output.status.code(), shown(&output).as_str()), (Some(1), message), "{command:?}");
     }
 }
 

@@ -9,6 +9,9 @@ use second::description::check;
 use second::report::{generate, initiate, terminate};
 use second::state::State;
 
+/// The calls of a report and those of the feeder, one line each.
+const TOLD: usize = 7;
+
 /// Bytes of stack; what is measured is less.
 const BOUND: usize = 32_768;
 
@@ -25,7 +28,8 @@ fn compiled() -> PathBuf {
     let mut compiler = Command::new("cc");
     compiler.args(["-std=c99", "-pedantic", "-Wall", "-Wextra", "-Werror", "-O2"]);
     compiler.arg("-I").arg(at("../include")).arg(at("c/stack.c")).arg("-L").arg(library());
-    let output = compiler.args(["-lreport_c", "-lpthread", "-o"]).arg(&program).output().expect("cc");
+    let output =
+        compiler.args(["-lreport_c", "-lfeeder_c", "-lpthread", "-o"]).arg(&program).output().expect("cc");
     assert!(output.status.success(), "{}", String::from_utf8_lossy(&output.stderr));
     program
 }
@@ -35,7 +39,7 @@ fn within_bound(program: &Path, desc: &Path, rows: &Path) {
     assert!(output.status.success(), "{desc:?}: {}", String::from_utf8_lossy(&output.stderr));
     let told = String::from_utf8_lossy(&output.stdout);
     println!("{}: {}", desc.display(), told.replace('\n', "; "));
-    assert_eq!(told.lines().count(), 4, "{told}");
+    assert_eq!(told.lines().count(), TOLD, "{told}");
     for line in told.lines() {
         let bytes: usize = line.split(' ').next_back().and_then(|word| word.parse().ok()).expect("a count");
         assert!(bytes < BOUND, "{desc:?}: {line}");

@@ -1,5 +1,5 @@
-//! The proved calls, from Rust: a safe wrapper of what `crates/report_c` exports. Standard library only; it links
-//! `target/staticlib/libreport_c.a`, which `rt staticlib report_c` writes.
+//! The proved calls, from Rust: a safe wrapper of what `crates/report_c` and `crates/feeder_c` export. Standard library only;
+//! it links `target/staticlib/libreport_c.a` and `target/staticlib/libfeeder_c.a`, which `rt staticlib` writes.
 //!
 //! A report is a description and a [`State`]. The state begins with [`State::fresh`]; INITIATE, GENERATE and
 //! TERMINATE are methods on it, and each gives an [`Answer`]. Accepted, the state becomes the next one and the
@@ -21,9 +21,35 @@
 //! assert_eq!(state.terminate(description, &mut sheet[end..]), Answer { number: 0, extra: 0, count: 22 });
 //! assert_eq!(&sheet, include_bytes!("../../examples/whole_run.sheet"));
 //! ```
+//!
+//! A [`Feeder`] is a report whose records come in pieces, cut anywhere. It begins with [`Feeder::fresh`]; its calls give
+//! a [`Fed`], which also counts the bytes taken.
+//!
+//! ```
+//! use bailcurlew::Feeder;
+//!
+//! let description = include_bytes!("../../examples/whole_run.desc");
+//! let mut sheet = [0; 176];
+//! let mut feeder = Feeder::fresh(0);
+//! assert!(feeder.initiate(description).accepted());
+//! let mut end = 0;
+//! for piece in include_bytes!("../../examples/whole_run.rows").chunks(5) {
+//!     let fed = feeder.feed(description, piece, &mut sheet[end..]);
+//!     assert!(fed.accepted());
+//!     end += fed.count;
+//! }
+//! assert_eq!(feeder.terminate(description, &mut sheet[end..]).count, 22);
+//! assert_eq!(&sheet, include_bytes!("../../examples/whole_run.sheet"));
+//! ```
 
 /// Bytes of a state.
 pub const STATE_BYTES: usize = 530;
+
+/// Bytes of a feeder.
+pub const FEEDER_BYTES: usize = 796;
+
+/// The most bytes of a chunk; the fewest are 1.
+pub const LONGEST_CHUNK: usize = 4096;
 
 extern "C" {
     fn bailcurlew_check(description: *const u8, length: usize) -> u32;
@@ -44,6 +70,27 @@ extern "C" {
         description: *const u8,
         length: usize,
         state: *mut u8,
+        output: *mut u8,
+        room: usize,
+        answer: *mut u64,
+    );
+    fn bailcurlew_feeder_fresh(detail: usize, feeder: *mut u8);
+    fn bailcurlew_feeder_initiate(description: *const u8, length: usize, feeder: *mut u8, answer: *mut u64);
+    fn bailcurlew_feeder_feed(
+        description: *const u8,
+        length: usize,
+        feeder: *mut u8,
+        chunk: *const u8,
+        chunk_length: usize,
+        output: *mut u8,
+        room: usize,
+        answer: *mut u64,
+    );
+    fn bailcurlew_feeder_discard(feeder: *mut u8);
+    fn bailcurlew_feeder_terminate(
+        description: *const u8,
+        length: usize,
+        feeder: *mut u8,
         output: *mut u8,
         room: usize,
         answer: *mut u64,
@@ -157,5 +204,115 @@ impl State {
             );
         }
         Answer::of(answer)
+    }
+}
+
+// ---- the feeder
+
+/// What a call of the feeder answers.
+#[derive(Clone, Copy, Debug, PartialEq, Eq)]
+pub struct Fed {
+    /// 0 accepted, else the refusal's number, 1 to 10 or 18.
+    pub number: u64,
+    /// The refusal's extra number: for 1 the first broken rule, for 6 the first malformed field, for 10 the count of the bytes
+    /// held, else 0.
+    pub extra: u64,
+    /// Bytes written to the output, also where a record behind others is refused.
+    pub count: usize,
+    /// Bytes of the chunk taken: all where it is accepted; where a record is refused, those in front of it. 0 for INITIATE and
+    /// TERMINATE.
+    pub taken: usize,
+}
+
+impl Fed {
+    pub fn accepted(&self) -> bool {
+        self.number == 0
+    }
+
+    /// The counts are at most the lengths of output and chunk and so a `usize`.
+    fn of([number, extra, count, taken]: [u64; 4]) -> Fed {
+        Fed { number, extra, count: count as usize, taken: taken as usize }
+    }
+}
+
+/// A report whose records come in pieces: 796 bytes, laid out as docs/ABI.md says. It holds the bytes of an unfinished
+/// record between the calls. Any bytes are taken as for a [`State`]; refusal 2 is also for as many bytes held as a record
+/// has, or more.
+///
+/// A call changes the feeder where it is accepted or has taken bytes; else it stays as it was.
+#[derive(Clone, Debug, PartialEq, Eq)]
+pub struct Feeder {
+    bytes: [u8; FEEDER_BYTES],
+}
+
+impl Feeder {
+    /// A fresh report, whose records are all detail number `detail`, counted from 0; no bytes held.
+    pub fn fresh(detail: usize) -> Feeder {
+        let mut bytes = [0; FEEDER_BYTES];
+        unsafe { bailcurlew_feeder_fresh(detail, bytes.as_mut_ptr()) };
+        Feeder { bytes }
+    }
+
+    pub fn from_bytes(bytes: [u8; FEEDER_BYTES]) -> Feeder {
+        Feeder { bytes }
+    }
+
+    pub fn as_bytes(&self) -> &[u8; FEEDER_BYTES] {
+        &self.bytes
+    }
+
+    /// INITIATE. No bytes are held afterwards.
+    pub fn initiate(&mut self, description: &[u8]) -> Fed {
+        let mut answer = [0; 4];
+        unsafe {
+            bailcurlew_feeder_initiate(
+                description.as_ptr(),
+                description.len(),
+                self.bytes.as_mut_ptr(),
+                answer.as_mut_ptr(),
+            );
+        }
+        Fed::of(answer)
+    }
+
+    /// Takes the next 1 to 4,096 bytes: GENERATE of each record that they finish, up to the first refused; the records
+    /// before that one stand, with their lines in the output. To go on, feed `&chunk[taken..]`, after refusal 9 with an
+    /// output for the lines still due; or [`discard`](Feeder::discard) the bytes held and skip the rest of the record.
+    pub fn feed(&mut self, description: &[u8], chunk: &[u8], output: &mut [u8]) -> Fed {
+        let mut answer = [0; 4];
+        unsafe {
+            bailcurlew_feeder_feed(
+                description.as_ptr(),
+                description.len(),
+                self.bytes.as_mut_ptr(),
+                chunk.as_ptr(),
+                chunk.len(),
+                output.as_mut_ptr(),
+                output.len(),
+                answer.as_mut_ptr(),
+            );
+        }
+        Fed::of(answer)
+    }
+
+    /// Drops the bytes held; all else stays.
+    pub fn discard(&mut self) {
+        unsafe { bailcurlew_feeder_discard(self.bytes.as_mut_ptr()) };
+    }
+
+    /// TERMINATE. Refused with 10 while bytes are held.
+    pub fn terminate(&mut self, description: &[u8], output: &mut [u8]) -> Fed {
+        let mut answer = [0; 4];
+        unsafe {
+            bailcurlew_feeder_terminate(
+                description.as_ptr(),
+                description.len(),
+                self.bytes.as_mut_ptr(),
+                output.as_mut_ptr(),
+                output.len(),
+                answer.as_mut_ptr(),
+            );
+        }
+        Fed::of(answer)
     }
 }
