@@ -22,7 +22,8 @@ use Rattle.description.specs.Check.{checked}
 use Rattle.accepted.specs.Accepted as facts
 use Rattle.accepted.proofs.Accept.{accepted as accept}
 use Rattle.state.specs.declared.State.{State}
-use Rattle.state.specs.State.{idle, started, freshAt}
+use Rattle.state.specs.State.{idle, started, keptSize, freshAt}
+use Rattle.state.proofs.Kept.{length-padded}
 use Rattle.answer.specs.Result as answer
 use Rattle.answer.specs.Result.{Result}
 use Rattle.work.specs.Facts.{Stands}
@@ -68,10 +69,11 @@ module _ (d : List ℕ) (a : checked d ≡ Accepted) where
   A : facts.Accepted h t lits
   A = accept d a
 
-  -- what is carried from call to call: the report's state stands, and less than a record is held
+  -- what is carried from call to call: the report's state stands, less than a record is held, and the tail has its size
   pub record Keeps (f : Feeder) : Type 0 where
     pub stands : Stands h t lits (f .state)
     pub few : f .held < h .reclen
+    pub long : length (f .tail) ≡ keptSize
 
   -- a feeder call that answers r, and the calls us that it amounts to
   pub record Serves (f : Feeder) (us : List Use) (r : FedResult) : Type 0 where
@@ -83,7 +85,7 @@ module _ (d : List ℕ) (a : checked d ≡ Accepted) where
 
   -- a feeder that holds nothing
   holds-none : (s : State) → Stands h t lits s → (detail : ℕ) → Keeps (holding s detail [])
-  holds-none s S detail = record { stands = S; few = omega (arith, A .record1) }
+  holds-none s S detail = record { stands = S; few = omega (arith, A .record1); long = length-padded [] (omega arith) }
 
   pub fresh-keeps : (detail : ℕ) → Keeps (freshFeeder detail)
   fresh-keeps detail = holds-none (freshAt idle) (fresh-stands h t lits A) detail
@@ -143,7 +145,7 @@ module _ (d : List ℕ) (a : checked d ≡ Accepted) where
           by-test (eqb (f .held) 0)
           (λ n. by-test (eqb (f .state .phase) idle)
           (λ e. rw (a, K .stands .rules, few-is, e, n) (same u (answer.refuse (f .state) out verdict.Phase) (idle-last e) (inr (omega arith, omega arith)) f refl K))
-          (λ e. rw (a, K .stands .rules, few-is, e, n) (same u last refl (call-fine d a (f .state) (K .stands) out Terminate []) ended refl (record { stands = last-stands; few = K .few }))))
+          (λ e. rw (a, K .stands .rules, few-is, e, n) (same u last refl (call-fine d a (f .state) (K .stands) out Terminate []) ended refl (record { stands = last-stands; few = K .few; long = K .long }))))
           (λ n. by-test (eqb (f .state .phase) idle)
           (λ e. rw (a, K .stands .rules, few-is, e, n) (refused out (Call verdict.Phase) (inl refl)))
           (λ e. rw (a, K .stands .rules, few-is, e, n) (refused out (Unfinished (f .held)) (inr (inr (inl refl))))))
@@ -187,8 +189,10 @@ module _ (d : List ℕ) (a : checked d ≡ Accepted) where
       took : accepted (end .run .verdict) ≡ true → Serves f us (record { fed = feeder.tookAll f chunk (end .run); out = end .out })
       took e =
           let l = left d a (f .detail) rows (h .reclen) (A .record1) (length rows) start (λ q. omega arith) e in
-          fed (length chunk) (holding (end .run .state) (f .detail) (drop (end .run .done) rows)) refl
-          (record { stands = run-good .stands; few = rw (length-drop (end .run .done) rows) (omega (arith, A .record1, l)) })
+          let rest = drop (end .run .done) rows in
+          let rest-few : length rest < h .reclen = rw (length-drop (end .run .done) rows) (omega (arith, A .record1, l)) in
+          fed (length chunk) (holding (end .run .state) (f .detail) rest) refl
+          (record { stands = run-good .stands; few = rest-few; long = length-padded rest (omega (arith, rest-few, A .record256)) })
 
       -- one was: the feeder handed in where it was the first, else one that holds nothing
       stopped : Serves f us (record { fed = feeder.stoppedAt f (end .run); out = end .out })

@@ -17,16 +17,16 @@ use Rattle.state.specs.declared.State.{State}
 use Rattle.state.specs.State.{freshAt}
 use Rattle.refusals.specs.declared.Tried.{Tried}
 use Rattle.refusals.specs.declared.Tried.the-variants.{Passed, Refused}
-use Rattle.refusals.specs.Stages.{then, begunIn, detailTried}
 use Rattle.stream.specs.Run.{Ran, next, goes, begun}
 use Rattle.batch.specs.Batch.{rowUnder}
 use Rattle.feeder.specs.declared.Feeder.{Feeder}
+use Rattle.feeder.specs.declared.FeederCall.the-variants.{Feed}
 use Rattle.feeder.specs.declared.FeederVerdict.the-variants.{Call}
 use Rattle.feeder.specs.Verdict.{number}
 use Rattle.feeder.specs.Feeder as feeder
 use Rattle.feeder.specs.Feeder.{joined, freshFeeder, FedResult}
 use Rattle.feeder.specs.Calls as calls
-use Rattle.feeder.specs.Calls.{feederOk, sized}
+use Rattle.feeder.specs.Calls.{sized, tried}
 use Rattle.book.specs.Book as book
 use Rattle.book.specs.Demand as demand
 use Rattle.book.specs.Demand.{Use, Done, Demand3}
@@ -43,7 +43,7 @@ unfoldable pub printed : List FedResult → List ℕ
 printed [] = []
 printed (r ∷ rs) = take (r .fed .count) (r .out) ++ printed rs
 
--- "a feeder call is refused only for 3 to 9, 10 and 18"; 0 is no refusal
+-- a feeder call is refused only for demand 3's reasons 3 to 9 and for the request's own 10 and 18; 0 is no refusal
 abbrev pub Allowed : ℕ → Type 0
 Allowed n = (n ≡ 0) ⊎ ((3 ≤ n) × (n ≤ 10)) ⊎ (n ≡ 18)
 
@@ -83,16 +83,12 @@ module _ (d : List ℕ) where
   endFeeder f (u ∷ us) = endFeeder (answer f u .fed .feeder) us
 
   -- ---- the calls that they amount to
-  -- "1 to 4 at every chunk": 2, 3 and 4
-  abbrev pub chunkTried : Feeder → Tried
-  chunkTried f = then (begunIn (feederOk h t f) (f .state .phase)) (detailTried h t (f .detail))
-
   -- "issues a GENERATE for each finished one with the detail number set at the start": one for each record of the run, the refused one included
   unfoldable pub generates : ℕ → List ℕ → ℕ → ℕ → Ran → List Use
   generates detail rows size zero x = []
   generates detail rows size (suc n) x = cond (goes rows size x) (generateAt detail rows size x ∷ generates detail rows size n (next (rowUnder d detail) rows size x)) []
 
-  -- where one of the tests refuses, no GENERATE is issued
+  -- "1 to 4 at every chunk": where one of them refuses, no GENERATE is issued
   abbrev pub issued : Tried → Feeder → List ℕ → List ℕ → List Use
   issued Passed f chunk out = let rows = joined f chunk in generates (f .detail) rows (h .reclen) (length rows) (begun (f .state) out)
   issued (Refused v) f chunk out = []
@@ -100,7 +96,7 @@ module _ (d : List ℕ) where
   -- "18, a chunk of 0 or over 4,096 bytes, first"; "10, TERMINATE with bytes kept"
   abbrev pub callsFor : Feeder → FeederUse → List Use
   callsFor f initiate = record { call = book.initiate; out = [] } ∷ []
-  callsFor f (feed chunk out) = cond (sized chunk) (issued (chunkTried f) f chunk out) []
+  callsFor f (feed chunk out) = cond (sized chunk) (issued (tried h t f Feed) f chunk out) []
   callsFor f discard = []
   callsFor f (terminate out) = cond (eqb (f .held) 0) (record { call = book.terminate; out = out } ∷ []) []
 

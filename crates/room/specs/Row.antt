@@ -1,0 +1,51 @@
+-- What GENERATE of a record comes to where there is room for its lines: it does not depend on the output.
+use Prim.Native.Nat.{ℕ}
+use mathlib.Core.Bool.{cond}
+use mathlib.Core.List.{List, []}
+use lib.Dec.{ltb}
+use lib.ListN.{length}
+use Rattle.splice.specs.Splice.{splice}
+use Rattle.tables.specs.declared.Head.{Head}
+use Rattle.due_text.specs.Bytes.{dueBytes}
+use Rattle.pages.specs.Outcome.{pastLast}
+use Rattle.state.specs.declared.State.{State}
+use Rattle.verdict.specs.declared.Verdict.{Verdict}
+use Rattle.verdict.specs.declared.Verdict.the-variants.{Accepted, Sum, Pages, Room}
+use Rattle.verdict.specs.Verdict.{accepted}
+use Rattle.refusals.specs.declared.Tried.{Tried}
+use Rattle.refusals.specs.declared.Tried.the-variants.{Passed, Refused}
+use Rattle.refusals.specs.Stages.{rowTried}
+use Rattle.answer.specs.Result.{Result, refuse}
+use Rattle.work.specs.Work.{Work, moved}
+use Rattle.work.specs.Rows.{rowWork}
+
+pub record Row : Type 0 where
+  pub verdict : Verdict
+  pub state : State
+  pub lines : List ℕ
+
+-- a refusal: the state handed in, and no lines
+abbrev pub noRow : State → Verdict → Row
+noRow s v = record { verdict = v; state = s; lines = [] }
+
+-- refusals 7 and 8
+abbrev pub workRow : Head → List ℕ → State → Work → Row
+workRow h t s w =
+    cond (w .ok)
+    (cond (pastLast (w .laid)) (noRow s Pages) (record { verdict = Accepted; state = moved w (w .laid .to); lines = dueBytes h t (w .inputs) (w .laid .dues) }))
+    (noRow s Sum)
+
+abbrev pub unlessRow : State → Row → Tried → Row
+unlessRow s x Passed = x
+unlessRow s x (Refused v) = noRow s v
+
+unfoldable pub rowOf : Head → List ℕ → List ℕ → ℕ → State → List ℕ → Row
+rowOf h t lits detail s row = unlessRow s (workRow h t s (rowWork h t lits s detail row)) (rowTried h t s detail row)
+
+-- and refusal 9: the row into an output
+abbrev pub lent : State → List ℕ → Row → Result
+lent s out x =
+    cond (accepted (x .verdict))
+    (cond (ltb (length out) (length (x .lines))) (refuse s out Room)
+    (record { answer = record { verdict = x .verdict; count = length (x .lines); state = x .state }; out = splice out 0 (x .lines) }))
+    (refuse s out (x .verdict))
