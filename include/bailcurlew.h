@@ -54,8 +54,8 @@ extern "C" {
 enum bailcurlew_refusal {
     BAILCURLEW_ACCEPTED = 0,
     BAILCURLEW_DESCRIPTION = 1, /* the description breaks a rule; extra: the first one, 1 to 8 */
-    BAILCURLEW_BAD_STATE = 2,   /* the state breaks its rules */
-    BAILCURLEW_PHASE = 3,       /* INITIATE when not idle; GENERATE or TERMINATE when idle */
+    BAILCURLEW_BAD_STATE = 2,   /* the state breaks its rules; a feeder holds a whole record or more */
+    BAILCURLEW_PHASE = 3,       /* INITIATE when not idle; GENERATE, feed or TERMINATE when idle */
     BAILCURLEW_DETAIL = 4,      /* the number names no detail group */
     BAILCURLEW_LENGTH = 5,      /* the record's length is not the described one */
     BAILCURLEW_MALFORMED = 6,   /* a field's bytes are malformed; extra: the first such field, from 0 */
@@ -94,9 +94,9 @@ void bailcurlew_terminate(const uint8_t *description, size_t length, uint8_t sta
  * a number that names none is refused by bailcurlew_feeder_feed. */
 void bailcurlew_feeder_fresh(size_t detail, uint8_t feeder[BAILCURLEW_FEEDER]);
 
-/* The three calls below answer in `answer`, with the bytes taken in its fourth place; only
- * bailcurlew_feeder_feed takes any. Accepted, `feeder` becomes the next feeder; refused with none taken, it stays as
- * it was. The first count bytes of `output` are the lines printed, all bytes behind them stay as they were. */
+/* INITIATE, feed and TERMINATE answer in `answer`, with the bytes taken in its fourth place; only feed takes any.
+ * Accepted, `feeder` becomes the next feeder; refused with none taken, it stays as it was. The first count bytes of
+ * `output` are the lines printed, all bytes behind them stay as they were. */
 
 /* INITIATE begins a report; it prints nothing, and no bytes are held afterwards. Refusals: 1, 2, 3. */
 void bailcurlew_feeder_initiate(const uint8_t *description, size_t length, uint8_t feeder[BAILCURLEW_FEEDER],
@@ -104,9 +104,10 @@ void bailcurlew_feeder_initiate(const uint8_t *description, size_t length, uint8
 
 /* Takes the next 1 to BAILCURLEW_CHUNK bytes: GENERATE of each record that they finish; the bytes of an unfinished
  * one are held. Refusals: 18, 1, 2, 3, 4 at every chunk, which take nothing; then 6, 7, 8, 9 of a record, which stop
- * the chunk before it: the records before it stand, with their lines in `output`, and taken counts the bytes of
- * the chunk in front of the refused record, 0 where an earlier chunk has begun it, whose bytes stay held. Feed the
- * rest of the chunk (from taken on) to go on, after 9 with an output for the lines still due. */
+ * the chunk in front of it: the records before it stand, with their lines in `output`, and taken counts the bytes
+ * of the chunk up to where the refused record begins; where an earlier chunk has begun it that is 0, and its
+ * earlier bytes stay held. To go on, feed the rest of the chunk from there, after 9 with an output for the lines
+ * still due. */
 void bailcurlew_feeder_feed(const uint8_t *description, size_t length, uint8_t feeder[BAILCURLEW_FEEDER],
                             const uint8_t *chunk, size_t chunk_length, uint8_t *output, size_t room,
                             uint64_t answer[4]);

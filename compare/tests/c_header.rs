@@ -23,9 +23,10 @@ fn library() -> PathBuf {
     std::env::var_os("BAILCURLEW_STATICLIB").map_or(at("../target/staticlib"), PathBuf::from)
 }
 
-/// Compiles a program of the folder `c` and links it with the static libraries named; gives the program.
-fn compiled(name: &str, libraries: &[&str]) -> PathBuf {
-    let program = Path::new(env!("CARGO_TARGET_TMPDIR")).join(format!("c_{name}"));
+/// Compiles a program of the folder `c` and links it with the static libraries named; gives the program. Tests run side by side,
+/// so each names a file of its own.
+fn compiled(name: &str, libraries: &[&str], file: &str) -> PathBuf {
+    let program = Path::new(env!("CARGO_TARGET_TMPDIR")).join(file);
     let mut compiler = Command::new("cc");
     compiler.args(STRICT).arg("-O2").arg("-I").arg(at("../include")).arg(at(&format!("c/{name}.c")));
     compiler.arg("-L").arg(library()).args(libraries).arg("-o").arg(&program);
@@ -50,7 +51,7 @@ fn prints_the_example(program: &Path, name: &str, more: &[&str]) {
 
 #[test]
 fn a_c_program_prints_the_examples() {
-    let program = compiled("sheet", &["-lreport_c"]);
+    let program = compiled("sheet", &["-lreport_c"], "c_sheet");
     for name in ["whole_run", "day_sheet"] {
         prints_the_example(&program, name, &[]);
     }
@@ -60,8 +61,9 @@ fn a_c_program_prints_the_examples() {
 /// chunk, which stops for want of output and is fed on.
 #[test]
 fn a_c_program_feeds_the_examples() {
-    for libraries in [["-lfeeder_c", "-lreport_c"], ["-lreport_c", "-lfeeder_c"]] {
-        let program = compiled("feed", &libraries);
+    let orders = [(["-lfeeder_c", "-lreport_c"], "c_feed_1"), (["-lreport_c", "-lfeeder_c"], "c_feed_2")];
+    for (libraries, file) in orders {
+        let program = compiled("feed", &libraries, file);
         for (name, sizes, rooms) in [
             ("whole_run", ["1", "5", "6", "7", "4096"], ["100000", "44"]),
             ("day_sheet", ["1", "66", "67", "68", "4096"], ["100000", "900"]),
@@ -76,7 +78,7 @@ fn a_c_program_feeds_the_examples() {
 /// What the C program says where a chunk is too long, where a record's lines do not fit and where the last is unfinished.
 #[test]
 fn a_c_program_is_told_the_feeders_refusals() {
-    let program = compiled("feed", &["-lreport_c", "-lfeeder_c"]);
+    let program = compiled("feed", &["-lreport_c", "-lfeeder_c"], "c_feed_refused");
     let unfinished = Path::new(env!("CARGO_TARGET_TMPDIR")).join("unfinished.rows");
     std::fs::write(&unfinished, b"AA+005AA+0").expect("a temporary file");
     let whole = example("whole_run", "rows");

@@ -1,11 +1,11 @@
 //! What goes into a feeder: a description, records that follow each other under it, states that it may be in.
 
-use bailcurlew::LONGEST_CHUNK;
+use bailcurlew::{FEEDER_BYTES, LONGEST_CHUNK};
 use second::cases::{accepted_description, play, sequence, Call, Expect, Rng};
 use second::description::{check, DE};
 use second::state::{State, IDLE};
 
-use super::FeederBytes;
+use super::{FeederBytes, DETAIL_AT, HELD_AT, TAIL_AT};
 
 /// Calls by which records and states are found.
 const STEPS: usize = 60;
@@ -24,7 +24,8 @@ pub struct Material {
     /// Records that are well-formed, each made after the one before; at least one, which may be malformed where all are.
     pub good: Vec<Vec<u8>>,
     pub malformed: Vec<Vec<u8>>,
-    /// States that keep the rules and are not idle, at least one; states that break the rules.
+    /// States that keep the rules, at least one of each; states that break the rules.
+    pub idle: Vec<State>,
     pub begun: Vec<State>,
     pub damaged: Vec<State>,
     /// The most bytes that any of the calls printed.
@@ -44,6 +45,7 @@ impl Material {
             details,
             good: Vec::new(),
             malformed: Vec::new(),
+            idle: vec![State::fresh()],
             begun: vec![State::started()],
             damaged: Vec::new(),
             most: usize::from(tables.w) + 10,
@@ -65,8 +67,8 @@ impl Material {
             self.most = self.most.max(answer.count);
             match step.expect {
                 Expect::Exactly(2, _) => self.damaged.push(step.state),
-                _ if step.state.phase != IDLE => self.begun.push(step.state),
-                _ => {}
+                _ if step.state.phase == IDLE => self.idle.push(step.state),
+                _ => self.begun.push(step.state),
             }
             if let Call::Generate { record, .. } = step.call {
                 match step.expect {
@@ -86,15 +88,15 @@ impl Material {
     /// A feeder in a state that has begun, with the first bytes of a record held and any bytes behind them; and the
     /// record's other bytes.
     pub fn feeder(&self, rng: &mut Rng) -> (FeederBytes, Vec<u8>) {
-        let mut feeder = [0; 796];
+        let mut feeder = [0; FEEDER_BYTES];
         let held = if rng.chance(30) { 0 } else { rng.below(self.r) };
         let record = rng.pick(&self.good);
-        feeder[..530].copy_from_slice(&rng.pick(&self.begun).to_bytes());
-        feeder[530..538].copy_from_slice(&self.detail(rng).to_le_bytes());
-        feeder[538..540].copy_from_slice(&(held as u16).to_le_bytes());
-        feeder[540..540 + held].copy_from_slice(&record[..held]);
+        feeder[..DETAIL_AT].copy_from_slice(&rng.pick(&self.begun).to_bytes());
+        feeder[DETAIL_AT..HELD_AT].copy_from_slice(&self.detail(rng).to_le_bytes());
+        feeder[HELD_AT..TAIL_AT].copy_from_slice(&(held as u16).to_le_bytes());
+        feeder[TAIL_AT..TAIL_AT + held].copy_from_slice(&record[..held]);
         if rng.chance(30) {
-            feeder[540 + held..].iter_mut().for_each(|byte| *byte = rng.byte());
+            feeder[TAIL_AT + held..].iter_mut().for_each(|byte| *byte = rng.byte());
         }
         (feeder, record[held..].to_vec())
     }

@@ -1,12 +1,18 @@
 //! The same call of the feeder made of both programs, and all that it leaves compared byte for byte.
 
 pub mod material;
+pub mod tally;
 
 use bailcurlew::{Fed, Feeder, FEEDER_BYTES};
 use second::cases::pattern;
 use second::feeder;
 
 pub type FeederBytes = [u8; FEEDER_BYTES];
+
+/// Where the detail number, the count of bytes held and those bytes stand; the state is in front.
+pub const DETAIL_AT: usize = 530;
+pub const HELD_AT: usize = 538;
+pub const TAIL_AT: usize = 540;
 
 #[derive(Clone, Copy, Debug, PartialEq, Eq)]
 pub enum Call<'a> {
@@ -44,7 +50,7 @@ pub fn lent(room: usize, salt: u8) -> Vec<u8> {
 
 /// The count of bytes held.
 pub fn held(feeder: &FeederBytes) -> usize {
-    usize::from(u16::from_le_bytes([feeder[538], feeder[539]]))
+    usize::from(u16::from_le_bytes([feeder[HELD_AT], feeder[HELD_AT + 1]]))
 }
 
 /// Makes the call of both programs; what they both leave, or where they part.
@@ -144,6 +150,6 @@ fn part_of_feeder(at: usize) -> String {
         0..=529 => format!("state byte {at}"),
         530..=537 => "detail number".to_string(),
         538..=539 => "count of bytes held".to_string(),
-        _ => format!("tail byte {}", at - 540),
+        _ => format!("tail byte {}", at - TAIL_AT),
     }
 }

@@ -32,7 +32,7 @@ use Rattle.batch.specs.Batch.{rowUnder}
 use Rattle.feeder.specs.declared.Feeder.{Feeder}
 use Rattle.feeder.specs.declared.Fed.{Fed}
 use Rattle.feeder.specs.declared.FeederVerdict.the-variants.{Call}
-use Rattle.feeder.specs.Feeder.{unfinished, joined, holding, FedResult}
+use Rattle.feeder.specs.Feeder.{unfinished, joined, holding, FedResult, Typed}
 use Rattle.feeder.specs.Calls.{tookAll, stoppedAt, fedOf, fedBy, call, sized, feed}
 use Rattle.room.specs.Row.{rowOf, lent}
 use Rattle.room.specs.Course.{Course, behind, Given, course}
@@ -40,7 +40,7 @@ use Rattle.room.proofs.Rows.{row-lent, Going, row-going, row-ample}
 use Rattle.room.proofs.Courses.{left-short, course-keeps}
 use Rattle.room.proofs.Runs.{Covers, through-covers, through-course, done-then, through-room}
 use Rattle.cutting.specs.Cut.{printedBy, feederTried}
-use Rattle.cutting.specs.Claims.{Typed, Roomy}
+use Rattle.cutting.specs.Claims.{Roomy}
 
 -- the bytes that a feeder was given to hold
 pub unfinished-holding : (s : State) (detail : ℕ) (rest : List ℕ) → unfinished (holding s detail rest) ≡ rest

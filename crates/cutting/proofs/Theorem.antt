@@ -30,11 +30,11 @@ use Rattle.batch.specs.Batch.{rowUnder}
 use Rattle.feeder.specs.declared.Feeder.{Feeder}
 use Rattle.feeder.specs.declared.FeederVerdict.the-variants.{Call}
 use Rattle.feeder.specs.Verdict as feeder
-use Rattle.feeder.specs.Feeder.{chunkMax, unfinished, joined, FedResult}
+use Rattle.feeder.specs.Feeder.{chunkMax, unfinished, joined, FedResult, Typed}
 use Rattle.feeder.specs.Calls.{fedOf, fedBy, unless, ifAccepted, call, sized, feed}
 use Rattle.room.specs.Course.{Course}
 use Rattle.cutting.specs.Cut.{Piece, chunks, cut, rowByRow, feederTried, firstTests}
-use Rattle.cutting.specs.Claims.{Typed, SizedChunks, Roomy, Cutting, CuttingTheorem, Room, Alike, Quiet, Again}
+use Rattle.cutting.specs.Claims.{SizedChunks, Roomy, Cutting, CuttingTheorem, Room, Alike, Quiet, Again}
 use Rattle.cutting.proofs.Feeds.{tidy-same, Ready, tried-ready, run-course, run-room}
 use Rattle.cutting.proofs.Cuts.{courseFrom, Follows, follows, tidy-end, roomy}
 use Rattle.cutting.proofs.Tries as tries

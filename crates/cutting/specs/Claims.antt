@@ -6,7 +6,6 @@ use mathlib.Core.List.{List, [], _++_}
 use lib.ListN.{length, take, drop}
 use Rattle.unpacked.specs.Head.{headOf}
 use Rattle.pagination.specs.All.{All}
-use Rattle.state.specs.State.{keptSize, Sized}
 use Rattle.refusals.specs.declared.Tried.the-variants.{Passed, Refused}
 use Rattle.verdict.specs.declared.Verdict.{Verdict}
 use Rattle.feeder.specs.declared.Feeder.{Feeder}
@@ -16,11 +15,6 @@ use Rattle.feeder.specs.Verdict.{number, accepted}
 use Rattle.feeder.specs.Feeder.{unfinished, joined, FedResult}
 use Rattle.feeder.specs.Calls.{sized, feed}
 use Rattle.cutting.specs.Cut.{Piece, chunks, printedBy, Cut, cut, rowByRow, firstTests}
-
--- what the types say of a feeder
-pub record Typed (f : Feeder) : Type 0 where
-  pub tail : length (f .tail) ≡ keptSize
-  pub state : Sized (f .state)
 
 -- "1 to 4,096 bytes at a time"
 abbrev pub SizedChunks : List Piece → Type 0

@@ -91,7 +91,7 @@ module _ (d : List ℕ) where
         (λ e. running-facts h t s e (S .rules) .inRange)
 
     -- a state that the run hands on, read from its bytes, is the state
-    read-back : (s : State) → Stands h t (literals d) s → stateOf (bytesOf s) ≡ s
+    pub read-back : (s : State) → Stands h t (literals d) s → stateOf (bytesOf s) ≡ s
     read-back s S = state-again s (in-bytes s (S .sized .sumsLong) (S .sized .flagsLong) (in-range s S))
 
     stored-next : (s : State) (u : Use) → stored (bytesOf s) (did d s u .result .answer) ≡ bytesOf (did d s u .result .answer .state)

@@ -4,7 +4,7 @@ use mathlib.Core.Path.{_≡_}
 use mathlib.Core.List.{List, [], _++_}
 use lib.ListN.{length, take}
 use Rattle.state.specs.declared.State.{State}
-use Rattle.state.specs.State.{idle, keptSize, freshAt}
+use Rattle.state.specs.State.{idle, keptSize, freshAt, Sized}
 use Rattle.state.specs.Kept.{paddedRow}
 use Rattle.feeder.specs.declared.Feeder.{Feeder}
 use Rattle.feeder.specs.declared.FeederVerdict.{FeederVerdict}
@@ -53,3 +53,8 @@ refuse f out v = record { fed = refusal f v; out = out }
 pub record Feeds (x : FedResult) (r : Fed) (out : List ℕ) : Type 0 where
   pub fedIs : r ≡ x .fed
   pub outIs : out ≡ x .out
+
+-- what the types say of a feeder
+pub record Typed (f : Feeder) : Type 0 where
+  pub tail : length (f .tail) ≡ keptSize
+  pub state : Sized (f .state)

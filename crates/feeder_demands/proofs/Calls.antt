@@ -31,6 +31,7 @@ use Rattle.calls.specs.declared.Asked.the-variants.{Terminate}
 use Rattle.calls.specs.Calls as tables
 use Rattle.every_call.proofs.Rules.{fresh-stands, begun-stands, call-stands}
 use Rattle.stream.specs.Run.{Ran, begun, ran, through}
+use Rattle.stream.proofs.Ends.{through-ended}
 use Rattle.report.specs.Calls as report
 use Rattle.batch.specs.Batch.{rowUnder}
 use Rattle.feeder.specs.declared.Feeder.{Feeder}
@@ -43,7 +44,7 @@ use Rattle.book.specs.Book as book
 use Rattle.book.specs.Demand as demand
 use Rattle.book.specs.Demand.{Use, run, printed}
 use Rattle.feeder_demands.specs.Demand.{FeederUse, initiate, feed, discard, terminate, Allowed, Own, numberOf, answer as answers, generates, callsFor, endState, lastVerdict}
-use Rattle.feeder_demands.proofs.Records.{Fine, call-fine, Amounts, amounts, Good, good, left}
+use Rattle.feeder_demands.proofs.Records.{Fine, call-fine, Amounts, amounts, Good, good}
 
 -- both are among what is allowed
 own-allowed : (n : ℕ) → Own n → Allowed n
@@ -187,8 +188,9 @@ module _ (d : List ℕ) (a : checked d ≡ Accepted) where
 
       -- no record was refused: what is left is less than one
       took : accepted (end .run .verdict) ≡ true → Serves f us (record { fed = feeder.tookAll f chunk (end .run); out = end .out })
+      unfolding through
       took e =
-          let l = left d a (f .detail) rows (h .reclen) (A .record1) (length rows) start (λ q. omega arith) e in
+          let l = through-ended (rowUnder d (f .detail)) rows (h .reclen) (f .state) out (A .record1) e in
           let rest = drop (end .run .done) rows in
           let rest-few : length rest < h .reclen = rw (length-drop (end .run .done) rows) (omega (arith, A .record1, l)) in
           fed (length chunk) (holding (end .run .state) (f .detail) rest) refl

@@ -2,7 +2,6 @@
 -- Assumes nothing.
 use Prim.Native.Nat.{ℕ, zero, suc, _+_, _≤_, _<_}
 use mathlib.Core.Path.{_≡_, refl, sym, _∙_}
-use mathlib.Core.Bool.{true, true≢false, _&&_}
 use mathlib.Core.List.{List, [], _∷_, _++_, append-nil, append-assoc}
 use mathlib.Core.Logic.{_⊎_, inl, inr, ⊎-elim}
 use native.Mathlib.Omega.{arith}
@@ -187,19 +186,3 @@ module _ (d : List ℕ) (a : checked d ≡ Accepted) (detail : ℕ) (rows : List
       unfolding ran
       good zero x G = G
       good (suc n) x G = by-cond (Good s) (goes rows size x) (λ g. good n (after x) (good-next x G)) (λ g. G)
-
-    -- fuel for what is left
-    enough : (n : ℕ) (x : Ran) → length rows ≤ x .run .done + suc n → accepted (after x .run .verdict) ≡ true → length rows ≤ after x .run .done + n
-    unfolding next
-    enough n x l =
-        by-cond (λ (z : Ran). accepted (z .run .verdict) ≡ true → length rows ≤ z .run .done + n) (accepted (result x .answer .verdict)) (λ e q. omega arith) (λ e q. absurd (true≢false (sym q ∙ e)))
-
-    -- unless a record was refused, what is left is less than one
-    pub left : (n : ℕ) (x : Ran) → (accepted (x .run .verdict) ≡ true → length rows ≤ x .run .done + n) → accepted (ran (rowUnder d detail) rows size n x .run .verdict) ≡ true
-        → length rows < ran (rowUnder d detail) rows size n x .run .done + size
-    unfolding ran
-    left zero x f = λ q. omega (arith, f q)
-    left (suc n) x f =
-        by-cond (λ (z : Ran). accepted (z .run .verdict) ≡ true → length rows < z .run .done + size) (goes rows size x)
-        (λ g. left n (after x) (enough n x (f (and-l (accepted (x .run .verdict)) (leb 1 size) (and-l (accepted (x .run .verdict) && leb 1 size) (leb (x .run .done + size) (length rows)) g)))))
-        (λ g q. leb-false (x .run .done + size) (length rows) (rw (q, le-leb 1 size sized) at g))
