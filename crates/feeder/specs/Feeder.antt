@@ -1,5 +1,5 @@
 -- The feeder, a report whose records come in pieces: the bytes that it holds, and what its calls return and leave.
-use Prim.Native.Nat.{ℕ, _+_}
+use Prim.Native.Nat.{ℕ}
 use mathlib.Core.Path.{_≡_}
 use mathlib.Core.List.{List, [], _++_}
 use lib.ListN.{length, take}
@@ -21,9 +21,6 @@ unfinished f = take (f .held) (f .tail)
 -- the records that a chunk finishes begin with the bytes held
 abbrev pub joined : Feeder → List ℕ → List ℕ
 joined f chunk = unfinished f ++ chunk
-
-abbrev pub joinedMax : ℕ
-joinedMax = keptSize + chunkMax
 
 -- a feeder that holds these bytes, then zeros
 abbrev pub holding : State → ℕ → List ℕ → Feeder

@@ -1,5 +1,5 @@
 // The feeder: a report whose records come in pieces. It holds the bytes of the unfinished record, and issues a GENERATE for each one that a piece finishes.
-ghost use Prim.Native.Nat.{_≤_, _<_};
+ghost use Prim.Native.Nat.{_+_, _≤_, _<_};
 ghost use mathlib.Core.Path.{_≡_};
 ghost use mathlib.Core.List.{[]};
 ghost use lib.ListN.{length};
@@ -10,7 +10,7 @@ ghost use Rattle.calls.specs.Calls.{callOn as reportOn};
 ghost use Rattle.calls.specs.declared.Asked.the-variants.{Terminate};
 ghost use Rattle.stream.specs.Run.{through, rowOn};
 ghost use Rattle.feeder.specs.Verdict.{number as numberSpec, extra as extraSpec};
-ghost use Rattle.feeder.specs.Feeder.{chunkMax, joinedMax, joined, holding as holdingSpec, freshFeeder, discard as discardSpec, refusal as refusalSpec, Feeds};
+ghost use Rattle.feeder.specs.Feeder.{chunkMax, joined, holding as holdingSpec, freshFeeder, discard as discardSpec, refusal as refusalSpec, Feeds};
 ghost use Rattle.feeder.specs.Calls.{fedOf, fedBy, begun as begunSpec, endedIf, triedIn, callOn as callOnSpec, call as callSpec, initiate as initiateSpec, feed as feedSpec, terminate as terminateSpec};
 ghost use Rattle.feeder.specs.Facts.{Joins, Used};
 use calls::Asked;
@@ -26,6 +26,9 @@ use verdict::Verdict;
 pub const CHUNK_MAX: usize = 4096;
 
 const JOINED_MAX: usize = state::KEPT_SIZE + CHUNK_MAX;
+
+// Bytes of a small buffer, which is sooner set up than one of the most.
+const JOINED_SMALL: usize = 512;
 
 // The report's state, the number of the detail that every record is, and the unfinished record: so many bytes of the tail are held.
 pub struct Feeder {
@@ -111,7 +114,7 @@ fn holding(s: State, detail: usize, rest: &[u8]) -> Feeder
 // ---- feed
 // The bytes held, then the chunk; answers how many.
 fn join(f: Feeder, chunk: &[u8], bytes: &mut [u8]) -> usize
-    requires { ⌜ (f .held ≤ keptSize) × (length (now chunk) ≤ chunkMax) × (length (now bytes) ≡ joinedMax) ⌝ }
+    requires { ⌜ (f .held ≤ keptSize) × (f .held + length (now chunk) ≤ length (now bytes)) ⌝ }
     ensures { λ r. ⌜ Joins (joined f (now (chunk .entry))) r (now (bytes .exit)) ⌝ }
 {
     let n = tables::wide(f.held);
@@ -152,14 +155,21 @@ fn settle(f: Feeder, chunk: &[u8], bytes: &[u8], run: Run) -> Fed
     }
 }
 
-// The records that a chunk finishes.
-fn feed_rows(t: &[u16], h: Head, lits: &[u8], f: Feeder, chunk: &[u8], out: &mut [u8]) -> Fed
-    requires { ⌜ Accepted h (now t) (now lits) × (f .held < h .reclen) × (length (now chunk) ≤ chunkMax) ⌝ }
+// The records that a chunk finishes, in a buffer that has room for the bytes held and the chunk.
+fn feed_in(
+    t: &[u16],
+    h: Head,
+    lits: &[u8],
+    f: Feeder,
+    chunk: &[u8],
+    bytes: &mut [u8],
+    out: &mut [u8],
+) -> Fed
+    requires { ⌜ Accepted h (now t) (now lits) × (f .held < h .reclen) × (f .held + length (now chunk) ≤ length (now bytes)) ⌝ }
     ensures { λ r. ⌜ Feeds (fedBy f (now (chunk .entry)) (through (rowOn h (now (t .entry)) (now (lits .entry)) (f .detail)) (joined f (now (chunk .entry))) (h .reclen) (f .state) (now (out .entry)))) r (now (out .exit)) ⌝ }
 {
     let s = f.state;
-    let mut bytes = [0u8; JOINED_MAX];
-    let n = join(f, chunk, &mut bytes);
+    let n = join(f, chunk, bytes);
     let run = stream::rows_on(
         t,
         h,
@@ -171,6 +181,19 @@ fn feed_rows(t: &[u16], h: Head, lits: &[u8], f: Feeder, chunk: &[u8], out: &mut
         out,
     );
     settle(f, chunk, &bytes[..n], run)
+}
+
+// The records that a chunk finishes, in a small buffer where that is enough.
+fn feed_rows(t: &[u16], h: Head, lits: &[u8], f: Feeder, chunk: &[u8], out: &mut [u8]) -> Fed
+    requires { ⌜ Accepted h (now t) (now lits) × (f .held < h .reclen) × (length (now chunk) ≤ chunkMax) ⌝ }
+    ensures { λ r. ⌜ Feeds (fedBy f (now (chunk .entry)) (through (rowOn h (now (t .entry)) (now (lits .entry)) (f .detail)) (joined f (now (chunk .entry))) (h .reclen) (f .state) (now (out .entry)))) r (now (out .exit)) ⌝ }
+{
+    if chunk.len() + state::KEPT_SIZE <= JOINED_SMALL {
+        let mut bytes = [0u8; JOINED_SMALL];
+        return feed_in(t, h, lits, f, chunk, &mut bytes, out);
+    }
+    let mut bytes = [0u8; JOINED_MAX];
+    feed_in(t, h, lits, f, chunk, &mut bytes, out)
 }
 
 // ---- INITIATE and TERMINATE
@@ -282,6 +305,10 @@ fn call(f: Feeder, d: &[u8], asked: FeederCall, chunk: &[u8], out: &mut [u8]) ->
         return refusal(f, FeederVerdict::Call(Verdict::Description(1)));
     };
     let n = unpacked::numbers_of(h);
+    if n <= report::SMALL_TABLE {
+        let mut t = [unpacked::UNSET; report::SMALL_TABLE];
+        return call_in(f, d, h, &mut t[..n], asked, chunk, out);
+    }
     let mut t = [unpacked::UNSET; unpacked::NUMBERS_MAX];
     call_in(f, d, h, &mut t[..n], asked, chunk, out)
 }

@@ -40,7 +40,7 @@ fn call_in(
 }
 
 // Numbers of a small table, which is sooner set up than one of the most.
-const SMALL: usize = 512;
+pub const SMALL_TABLE: usize = 512;
 
 // A call under a description, in the front of a small table where that is enough for its numbers.
 pub fn call(s: State, d: &[u8], asked: Asked, rec: &[u8], out: &mut [u8]) -> Answer
@@ -50,8 +50,8 @@ pub fn call(s: State, d: &[u8], asked: Asked, rec: &[u8], out: &mut [u8]) -> Ans
         return answer::refusal(s, Verdict::Description(1));
     };
     let n = unpacked::numbers_of(h);
-    if n <= SMALL {
-        let mut t = [unpacked::UNSET; SMALL];
+    if n <= SMALL_TABLE {
+        let mut t = [unpacked::UNSET; SMALL_TABLE];
         return call_in(s, d, h, &mut t[..n], asked, rec, out);
     }
     let mut t = [unpacked::UNSET; unpacked::NUMBERS_MAX];

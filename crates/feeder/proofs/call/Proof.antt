@@ -1,4 +1,4 @@
--- `feeder::call` meets its contract: refusal 1 where D1 is broken, else the call in a table of the most.
+-- `feeder::call` meets its contract: refusal 1 where D1 is broken, else the call in a table of one of two sizes.
 -- Assumes nothing.
 use mathlib.Core.Path.{refl, sym}
 use borrow.Author.Needs.{needs}
@@ -10,14 +10,22 @@ use Rattle.feeder.proofs.call.Statement.{statement}
 use Rattle.feeder.proofs.call.Tie as tie
 
 -- the numbers fit an array of the most
-fits : tie.Need-array-borrow-prefix-t
-fits c = let p = under _ (c .before .before .before .before .opening-of .ensures) (c .before .before .h .given .1) in numbers-few _ (p .0) (p .1) (c .numbers-of .ensures)
+few : tie.Need-array-borrow-prefix-t-2
+few c = let p = under _ (c .before .before .before .before .before .opening-of .ensures) (c .before .before .before .h .given .1) in numbers-few _ (p .0) (p .1) (c .before .numbers-of .ensures)
 
 call-in-requires : tie.Need-call-in-requires
 call-in-requires c κs =
-    let n = c .before .before in
-    let p = under _ (n .before .before .before .before .opening-of .ensures) (n .before .before .h .given .1) in
-    (front-room _ (p .0) (p .1) (n .numbers-of .ensures) numbersMax 1 (fits n), n .before .before .before .before .before .before .before .before .pre)
+    let n = c .before .before .before in
+    let o = n .before .before .before .before in
+    let p = under _ (o .opening-of .ensures) (n .before .before .h .given .1) in
+    (front-room _ (p .0) (p .1) (n .numbers-of .ensures) 512 1 (c .before .before .if1 .taken), o .before .before .before .before .pre)
+
+call-in-requires-2 : tie.Need-call-in-requires-2
+call-in-requires-2 c κs =
+    let n = c .before .before .before in
+    let o = n .before .before .before .before in
+    let p = under _ (o .opening-of .ensures) (n .before .before .h .given .1) in
+    (front-room _ (p .0) (p .1) (n .numbers-of .ensures) numbersMax 1 (few (c .before .before)), o .before .before .before .before .pre)
 
 pub call-spec : {M : Type 1} → statement M
 call-spec =
@@ -29,8 +37,13 @@ call-spec =
     (λ c κs. search needs)
     (λ c. call-broken _ _ _ _ _ _ _ _ (d1-broken _ (broken _ (c .before .before .before .opening-of .ensures) (c .before .enum-told .given .1))) (c .refusal .ensures) refl)
     (λ c κs. search needs)
-    fits
-    (λ c. sym (front _ numbersMax 1 (fits (c .before))))
+    (λ c. search needs)
+    (λ c. sym (front _ 512 1 (c .before .if1 .taken)))
     call-in-requires
     (λ c. search needs)
-    (λ c. search needs))
+    (λ c. c .before .before .before .call-in .ensures)
+    few
+    (λ c. sym (front _ numbersMax 1 (few (c .before))))
+    call-in-requires-2
+    (λ c. search needs)
+    (λ c. c .before .before .before .call-in2 .ensures))
