@@ -27,9 +27,6 @@ pub const CHUNK_MAX: usize = 4096;
 
 const JOINED_MAX: usize = state::KEPT_SIZE + CHUNK_MAX;
 
-// Bytes of a small buffer, which is sooner set up than one of the most.
-const JOINED_SMALL: usize = 512;
-
 // The report's state, the number of the detail that every record is, and the unfinished record: so many bytes of the tail are held.
 pub struct Feeder {
     pub state: State,
@@ -155,21 +152,14 @@ fn settle(f: Feeder, chunk: &[u8], bytes: &[u8], run: Run) -> Fed
     }
 }
 
-// The records that a chunk finishes, in a buffer that has room for the bytes held and the chunk.
-fn feed_in(
-    t: &[u16],
-    h: Head,
-    lits: &[u8],
-    f: Feeder,
-    chunk: &[u8],
-    bytes: &mut [u8],
-    out: &mut [u8],
-) -> Fed
-    requires { ⌜ Accepted h (now t) (now lits) × (f .held < h .reclen) × (f .held + length (now chunk) ≤ length (now bytes)) ⌝ }
+// The records that a chunk finishes.
+fn feed_rows(t: &[u16], h: Head, lits: &[u8], f: Feeder, chunk: &[u8], out: &mut [u8]) -> Fed
+    requires { ⌜ Accepted h (now t) (now lits) × (f .held < h .reclen) × (length (now chunk) ≤ chunkMax) ⌝ }
     ensures { λ r. ⌜ Feeds (fedBy f (now (chunk .entry)) (through (rowOn h (now (t .entry)) (now (lits .entry)) (f .detail)) (joined f (now (chunk .entry))) (h .reclen) (f .state) (now (out .entry)))) r (now (out .exit)) ⌝ }
 {
     let s = f.state;
-    let n = join(f, chunk, bytes);
+    let mut bytes = [0u8; JOINED_MAX];
+    let n = join(f, chunk, &mut bytes);
     let run = stream::rows_on(
         t,
         h,
@@ -181,19 +171,6 @@ fn feed_in(
         out,
     );
     settle(f, chunk, &bytes[..n], run)
-}
-
-// The records that a chunk finishes, in a small buffer where that is enough.
-fn feed_rows(t: &[u16], h: Head, lits: &[u8], f: Feeder, chunk: &[u8], out: &mut [u8]) -> Fed
-    requires { ⌜ Accepted h (now t) (now lits) × (f .held < h .reclen) × (length (now chunk) ≤ chunkMax) ⌝ }
-    ensures { λ r. ⌜ Feeds (fedBy f (now (chunk .entry)) (through (rowOn h (now (t .entry)) (now (lits .entry)) (f .detail)) (joined f (now (chunk .entry))) (h .reclen) (f .state) (now (out .entry)))) r (now (out .exit)) ⌝ }
-{
-    if chunk.len() + state::KEPT_SIZE <= JOINED_SMALL {
-        let mut bytes = [0u8; JOINED_SMALL];
-        return feed_in(t, h, lits, f, chunk, &mut bytes, out);
-    }
-    let mut bytes = [0u8; JOINED_MAX];
-    feed_in(t, h, lits, f, chunk, &mut bytes, out)
 }
 
 // ---- INITIATE and TERMINATE

@@ -1,19 +1,19 @@
--- `feeder::feed_in` meets its contract: the bytes in one buffer, the records in them, what these came to.
+-- `feeder::feed_rows` meets its contract: the bytes in one buffer, the records in them, what these came to.
 -- Assumes nothing.
 use mathlib.Core.Path.{sym}
 use native.Mathlib.Omega.{arith}
 use borrow.Author.Needs.{needs}
 use lib.Seq.{length-take-le}
 use Rattle.feeder.proofs.Laws.{used, feeds-rows}
-use Rattle.feeder.proofs.feed_in.Statement.{statement}
-use Rattle.feeder.proofs.feed_in.Tie as tie
+use Rattle.feeder.proofs.feed_rows.Statement.{statement}
+use Rattle.feeder.proofs.feed_rows.Tie as tie
 
 -- from the run back to the bytes, and from there to the start
 abbrev joining : tie.After-rows-on → tie.After-join
-joining k = k .before .before .before .before .before .before
+joining k = k .before .before .before .before .before
 
 abbrev start : tie.After-join → tie.Start
-start j = j .before .before .before .before .before .before .before .before
+start j = j .before .before .before .before .before .before .before
 
 settle-requires : tie.Need-settle-requires
 settle-requires c κs =
@@ -28,18 +28,18 @@ returns c =
     let k = c .before .before .before .before in
     feeds-rows _ _ _ _ (k .before .before .wide .ensures .is) (joining k .join .ensures .is) _ (k .rows-on .ensures) (c .settle .ensures)
 
-pub feed-in-spec : {M : Type 1} → statement M
-feed-in-spec =
+pub feed-rows-spec : {M : Type 1} → statement M
+feed-rows-spec =
     tie.close
     (tie.spec
+    (λ c. search needs)
     (λ c κs. search needs)
     (λ c. search needs)
-    (λ c. sym (length-take-le _ _ (c .before .before .before .join .ensures .inside)))
+    (λ c. sym (length-take-le _ _ (c .before .before .join .ensures .inside)))
     (λ c κs. search needs)
     (λ c κs. search needs)
     (λ c. search needs)
     (λ c. sym (length-take-le _ _ (joining (c .before .before .before) .join .ensures .inside)))
     settle-requires
-    (λ c. search needs)
     (λ c. search needs)
     returns)
