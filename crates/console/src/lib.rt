@@ -3,17 +3,18 @@ ghost use Prim.Native.Nat.{_≤_};
 ghost use lib.ListN.{length};
 ghost use Rattle.io.specs.Counts.{Counts};
 use libc::STDERR_FILENO;
+use libc::STDIN_FILENO;
 use libc::STDOUT_FILENO;
 
 fn usage(fd: i32) {
-    io::write_all(fd, b"usage: sheet [--progress] DESCRIPTION RECORDS\n");
+    io::write_all(fd, b"usage: sheet [--progress] DESCRIPTION RECORDS|-\n");
 }
 
 fn help(fd: i32) {
     usage(fd);
     io::write_all(
         fd,
-        b"\nPrints the sheet of a record file: INITIATE, GENERATE every record as detail 0, TERMINATE. A refused call is told on\nstandard error and ends the sheet; what was accepted before stands. Rows count from 1, fields and bytes from 0.\n\n  --progress  tell on standard error how many rows are done\n  --help      print this\n",
+        b"\nPrints the sheet of a record file: INITIATE, GENERATE every record as detail 0, TERMINATE. A refused call is told on\nstandard error and ends the sheet; what was accepted before stands. Rows count from 1, fields and bytes from 0.\n\n  -           take the records from standard input; the lines of a row are written before more is read\n              (a file of this name is ./-)\n  --progress  tell on standard error how many rows are done\n  --help      print this\n",
     );
 }
 
@@ -33,7 +34,8 @@ pub fn progress(is_asked: bool, rows: u64) {
 }
 
 // ---- arguments
-fn is_same(a: &[u8], b: &[u8]) -> bool {
+// Whether two words are the same.
+pub fn is_same(a: &[u8], b: &[u8]) -> bool {
     if a.len() != b.len() {
         return false;
     }
@@ -112,6 +114,27 @@ pub fn read_part(fd: i32, part: usize, buffer: &mut [u8]) -> usize
 {
     let got = io::read_full(fd, &mut buffer[..part]);
     counts::least(got, part)
+}
+
+// What one read of standard input answered: so many bytes, 0 at the end or where it failed.
+pub struct Piece {
+    pub count: usize,
+    pub is_broken: bool,
+}
+
+// Reads standard input once, as much as there is; tells where it cannot.
+pub fn read_piece(buffer: &mut [u8]) -> Piece
+    ensures { λ r. ⌜ r .count ≤ length (now (buffer .entry)) ⌝ }
+{
+    let got = libc::read(STDIN_FILENO, buffer);
+    let is_broken = got < 0;
+    if is_broken {
+        failure(b"standard input");
+    }
+    Piece {
+        count: io::count(got, buffer),
+        is_broken,
+    }
 }
 
 // Writes what waits; answers whether it could, and tells where not.

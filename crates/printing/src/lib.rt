@@ -1,10 +1,10 @@
 // A sheet while it is printed: INITIATE, what follows the records in hand, a refused row, TERMINATE.
-ghost use Prim.Native.Nat.{_≤_};
+ghost use Prim.Native.Nat.{_+_, _≤_};
 ghost use mathlib.Core.Path.{_≡_};
 ghost use lib.ListN.{length};
 use report::Report;
 use state::State;
-use unpacked::Opened;
+use stream::Run;
 use verdict::Verdict;
 
 // Where the sheet stands: output bytes that wait to be written, the record bytes in hand (from, to), rows accepted,
@@ -28,13 +28,30 @@ pub struct Records {
 }
 
 // ---- the rows
+// Where the sheet stands after these records.
+pub fn advanced(s: Sheet, run: Run, size: usize, room: usize) -> Sheet
+    requires { ⌜ (1 ≤ size) × (s .waiting + run .count ≤ room) × (s .from + run .done ≤ s .to) ⌝ }
+    ensures { λ r. ⌜ (r .waiting ≤ room) × (r .from ≤ r .to) × (r .to ≡ s .to) ⌝ }
+{
+    let state = run.state;
+    Sheet {
+        state,
+        waiting: s.waiting + run.count,
+        from: s.from + run.done,
+        to: s.to,
+        rows: std::num::wrapping_add_u64(s.rows, (run.done / size) as u64),
+        more: true,
+        whole: true,
+    }
+}
+
 // A refused row of so many bytes ends the sheet; what was accepted before it stands.
 fn end_at(d: &[u8], bytes: usize, v: Verdict, s: Sheet, out: &[u8]) -> Sheet
     requires { ⌜ s .waiting ≤ length (now out) ⌝ }
     ensures { λ r. ⌜ (r .waiting ≡ 0) × (r .from ≡ s .from) × (r .to ≡ s .to) ⌝ }
 {
     if console::flush(out, s.waiting) {
-        words::at_row(std::num::wrapping_add_u64(s.rows, 1));
+        words::at_row(s.rows);
         words::refusal(d, bytes, v);
     }
     let state = s.state;
@@ -173,24 +190,10 @@ pub fn finish(d: &[u8], s: Sheet, out: &mut [u8])
         if v.number() == 0 {
             console::flush(out, e.count);
         } else {
-            words::say(b"sheet: TERMINATE: ");
+            words::at_terminate();
             words::refusal(d, 0, v);
         }
     }
-}
-
-// The length of a record, in an accepted description; 1 where there is none.
-pub fn record_length(d: &[u8]) -> usize
-    ensures { λ r. ⌜ 1 ≤ r ⌝ }
-{
-    let Opened::With(h) = unpacked::opening_of(d) else {
-        return 1;
-    };
-    let n = tables::wide(h.reclen);
-    if n == 0 {
-        return 1;
-    }
-    n
 }
 
 // INITIATE of a fresh report, told where it is refused.

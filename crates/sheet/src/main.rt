@@ -26,23 +26,6 @@ fn print_rows(d: &[u8], size: usize, s: Sheet, buffer: &[u8], out: &mut [u8]) ->
     batch::generate_all(d, &buffer[from..to], size, state, &mut out[at..])
 }
 
-// Where the sheet stands after these records.
-fn advanced(s: Sheet, run: Run, size: usize, room: usize) -> Sheet
-    requires { ⌜ (1 ≤ size) × (s .waiting + run .count ≤ room) × (s .from + run .done ≤ s .to) ⌝ }
-    ensures { λ r. ⌜ (r .waiting ≤ room) × (r .from ≤ r .to) × (r .to ≡ s .to) ⌝ }
-{
-    let state = run.state;
-    Sheet {
-        state,
-        waiting: s.waiting + run.count,
-        from: s.from + run.done,
-        to: s.to,
-        rows: std::num::wrapping_add_u64(s.rows, (run.done / size) as u64),
-        more: true,
-        whole: true,
-    }
-}
-
 // One turn: the records in hand, then what their verdict asks for.
 fn turn(
     d: &[u8],
@@ -58,7 +41,7 @@ fn turn(
     let room = out.len();
     let run = print_rows(d, records.size, s, buffer, out);
     let v = run.verdict;
-    let after = advanced(s, run, records.size, room);
+    let after = printing::advanced(s, run, records.size, room);
     printing::settle(d, path, records, v, after, buffer, out)
 }
 
@@ -98,21 +81,30 @@ fn print_file(
 // INITIATE, the records, TERMINATE.
 fn print_sheet(d: &[u8], fd: i32, path: &[u8], progress: bool, buffer: &mut [u8], out: &mut [u8]) {
     let start = printing::initiated(d);
-    let size = printing::record_length(d);
+    let size = words::record_length(d);
     let s = print_file(d, fd, path, size, start, progress, buffer, out);
     printing::finish(d, s, out);
 }
 
-// The sheet of a description and a record file, by its path.
-fn print_records(d: &[u8], path: &[u8], progress: bool) {
+// The sheet of a record file, by its path.
+fn print_named(d: &[u8], path: &[u8], progress: bool, out: &mut [u8]) {
     let fd = console::opened(path);
     if fd < 0 {
         return;
     }
     let mut buffer = io::large_buffer();
-    let mut out = [0u8; SHEET_ROOM];
-    print_sheet(d, fd, path, progress, &mut buffer, &mut out);
+    print_sheet(d, fd, path, progress, &mut buffer, out);
     libc::close(fd);
+}
+
+// The sheet of a description and its records: those of standard input, which `-` stands for, or of a file.
+fn print_records(d: &[u8], path: &[u8], progress: bool) {
+    let mut out = [0u8; SHEET_ROOM];
+    if console::is_same(path, b"-") {
+        pipe::print_input(d, progress, &mut out);
+    } else {
+        print_named(d, path, progress, &mut out);
+    }
 }
 
 // The description and the records, each by its path.

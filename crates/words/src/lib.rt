@@ -1,4 +1,5 @@
 // What a program tells on standard error: text, numbers, a refusal as a sentence with its numbers.
+ghost use Prim.Native.Nat.{_≤_};
 use libc::STDERR_FILENO;
 use verdict::Verdict;
 
@@ -11,11 +12,16 @@ pub fn say_number(n: u64) {
 }
 
 // ---- a refusal: where, what, and its numbers
-// The place of a refused row.
-pub fn at_row(row: u64) {
+// The place of a refused row: so many were accepted before it.
+pub fn at_row(rows: u64) {
     say(b"sheet: row ");
-    say_number(row);
+    say_number(std::num::wrapping_add_u64(rows, 1));
     say(b": ");
+}
+
+// The place of a refused TERMINATE.
+pub fn at_terminate() {
+    say(b"sheet: TERMINATE: ");
 }
 
 // What a rule of a description is about.
@@ -74,22 +80,38 @@ fn malformed_field(d: &[u8], k: usize) {
     say(b" is malformed");
 }
 
-// The described length of a record.
-fn described_length(d: &[u8]) -> u64 {
+// The length of a record, in an accepted description; 1 where there is none.
+pub fn record_length(d: &[u8]) -> usize
+    ensures { λ r. ⌜ 1 ≤ r ⌝ }
+{
     if d.len() < file::TRAILER_LEAST {
-        return 0;
+        return 1;
     }
-    file::setting_of(d, file::RECORD_LENGTH) as u64
+    let n = file::setting_of(d, file::RECORD_LENGTH);
+    if n == 0 {
+        return 1;
+    }
+    n
 }
 
 fn wrong_length(d: &[u8], length: usize) {
     say(b"the record's length is ");
     say_number(length as u64);
     say(b", not ");
-    say_number(described_length(d));
+    say_number(record_length(d) as u64);
 }
 
-fn sentence(d: &[u8], length: usize, v: Verdict) {
+// The input ended in a record of which so many bytes came.
+pub fn cut_off(d: &[u8], held: usize) {
+    say(b"the record is cut off: ");
+    say_number(held as u64);
+    say(b" of ");
+    say_number(record_length(d) as u64);
+    say(b" bytes came");
+}
+
+// A refusal of a call with this description and a record of this length.
+pub fn sentence(d: &[u8], length: usize, v: Verdict) {
     match v {
         Verdict::Accepted => say(b"the call is accepted"),
         Verdict::Description(rule) => broken_rule(rule),
@@ -104,12 +126,17 @@ fn sentence(d: &[u8], length: usize, v: Verdict) {
     }
 }
 
-// A refusal of a call with this description and a record of this length: a sentence and the numbers of document 01's table.
+// The numbers of the papers' tables, which end the line.
+pub fn numbers(number: u64, extra: u64) {
+    say(b"; refusal ");
+    say_number(number);
+    say(b", extra number ");
+    say_number(extra);
+    say(b"\n");
+}
+
+// A refusal as a sentence and its numbers.
 pub fn refusal(d: &[u8], length: usize, v: Verdict) {
     sentence(d, length, v);
-    say(b"; refusal ");
-    say_number(v.number());
-    say(b", extra number ");
-    say_number(v.extra());
-    say(b"\n");
+    numbers(v.number(), v.extra());
 }
