@@ -14,25 +14,12 @@ use Rattle.description.specs.declared.Checked.the-variants.{Accepted, Broken}
 use Rattle.description.specs.Check.{checked}
 use Rattle.state.specs.declared.State.{State}
 use Rattle.verdict.specs.declared.Verdict.the-variants as verdict
-use Rattle.answer.specs.Result.{refuse}
-use Rattle.report.specs.Calls.{call}
+use Rattle.report.specs.Calls.{rowUnder}
+use Rattle.report.proofs.Checked.{row-on, row-broken}
 use Rattle.stream.specs.declared.Run.{Run}
 use Rattle.stream.specs.Run.{Ran, goes, begun, through, rowOn, Comes}
 use Rattle.stream.proofs.Laws.{through-same, through-none, through-halts}
-use Rattle.batch.specs.Batch.{rowUnder, stopped, generateAll}
-
--- ---- one record
-row-on : (d : List ℕ) → checked d ≡ Accepted → (detail : ℕ) (s : State) (row o : List ℕ) → rowUnder d detail s row o ≡ rowOn (headOf d) (table d) (literals d) detail s row o
-unfolding call
-row-on d e detail s row o = rw e refl
-
-row-broken : (d : List ℕ) (k : ℕ) → checked d ≡ Broken k → (detail : ℕ) (s : State) (row o : List ℕ) → rowUnder d detail s row o ≡ refuse s o (verdict.Description k)
-unfolding call
-row-broken d k e detail s row o = rw e refl
-
--- many records
-pub through-on : (d : List ℕ) → checked d ≡ Accepted → (detail : ℕ) (rows : List ℕ) (size : ℕ) (s : State) (out : List ℕ) → through (rowUnder d detail) rows size s out ≡ through (rowOn (headOf d) (table d) (literals d) detail) rows size s out
-through-on d e detail = through-same (rowUnder d detail) (rowOn (headOf d) (table d) (literals d) detail) (row-on d e detail)
+use Rattle.batch.specs.Batch.{stopped, generateAll}
 
 module _ (d rows : List ℕ) (size : ℕ) (s : State) (out : List ℕ) where
   -- a run that is known comes to what it leaves
@@ -63,4 +50,4 @@ module _ (d rows : List ℕ) (size : ℕ) (s : State) (out : List ℕ) where
 
   -- ---- the records on tables
   pub comes-on : {h : Head} {t lits : List ℕ} → checked d ≡ Accepted → h ≡ headOf d → t ≡ table d → lits ≡ literals d → (r : Run) (new : List ℕ) → Comes (through (rowOn h t lits 0) rows size s out) r new rows → Comes (generateAll d rows size s out) r new rows
-  comes-on e eh et el r new x = rw (through-on d e 0 rows size s out) (rw (eh, et, el) at x)
+  comes-on e eh et el r new x = rw (through-same (rowUnder d 0) (rowOn (headOf d) (table d) (literals d) 0) (row-on d e 0) rows size s out) (rw (eh, et, el) at x)

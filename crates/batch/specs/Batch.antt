@@ -3,13 +3,9 @@ use Prim.Native.Nat.{ℕ}
 use mathlib.Core.List.{List}
 use Rattle.state.specs.declared.State.{State}
 use Rattle.verdict.specs.declared.Verdict.{Verdict}
-use Rattle.report.specs.Calls.{generate}
+use Rattle.report.specs.Calls.{rowUnder}
 use Rattle.stream.specs.declared.Run.{Run}
-use Rattle.stream.specs.Run.{One, Ran, through}
-
--- GENERATE of one detail
-abbrev pub rowUnder : List ℕ → ℕ → One
-rowUnder d detail s row out = generate d s detail row out
+use Rattle.stream.specs.Run.{Ran, through}
 
 -- a run that ends before its first record
 abbrev pub stopped : State → Verdict → Run

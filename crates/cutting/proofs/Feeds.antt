@@ -28,7 +28,7 @@ use Rattle.refusals.specs.Stages.{detailTried}
 use Rattle.verdict.specs.Verdict.{number, accepted}
 use Rattle.report.specs.Calls as report
 use Rattle.stream.specs.Run.{Ran, begun, through}
-use Rattle.batch.specs.Batch.{rowUnder}
+use Rattle.report.specs.Calls.{rowUnder}
 use Rattle.feeder.specs.declared.Feeder.{Feeder}
 use Rattle.feeder.specs.declared.Fed.{Fed}
 use Rattle.feeder.specs.declared.FeederVerdict.the-variants.{Call}

@@ -25,7 +25,7 @@ use Rattle.answer.specs.Result as answer
 use Rattle.calls.specs.Calls as calls
 use Rattle.report.specs.Calls as report
 use Rattle.stream.proofs.Laws.{here, through-halts}
-use Rattle.batch.specs.Batch.{rowUnder}
+use Rattle.report.specs.Calls.{rowUnder}
 use Rattle.feeder.specs.declared.Feeder.{Feeder}
 use Rattle.feeder.specs.declared.FeederVerdict.the-variants.{Call}
 use Rattle.feeder.specs.Feeder.{joined, refuse}

@@ -26,7 +26,7 @@ use Rattle.refusals.specs.declared.Tried.the-variants.{Passed, Refused}
 use Rattle.verdict.specs.declared.Verdict.{Verdict}
 use Rattle.stream.specs.Run.{goes, begun}
 use Rattle.stream.proofs.Laws.{through-none}
-use Rattle.batch.specs.Batch.{rowUnder}
+use Rattle.report.specs.Calls.{rowUnder}
 use Rattle.feeder.specs.declared.Feeder.{Feeder}
 use Rattle.feeder.specs.declared.FeederVerdict.the-variants.{Call}
 use Rattle.feeder.specs.Verdict as feeder

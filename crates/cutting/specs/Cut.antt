@@ -14,7 +14,7 @@ use Rattle.refusals.specs.declared.Tried.the-variants.{Passed, Refused}
 use Rattle.refusals.specs.Stages.{then}
 use Rattle.verdict.specs.declared.Verdict.the-variants.{Accepted, Description}
 use Rattle.stream.specs.Run.{Ran, through}
-use Rattle.batch.specs.Batch.{rowUnder}
+use Rattle.report.specs.Calls.{rowUnder}
 use Rattle.feeder.specs.declared.Feeder.{Feeder}
 use Rattle.feeder.specs.declared.FeederCall.the-variants.{Feed}
 use Rattle.feeder.specs.declared.FeederVerdict.{FeederVerdict}

@@ -33,10 +33,11 @@ use Rattle.calls.specs.declared.Asked.the-variants as asked
 use Rattle.calls.specs.Calls as calls
 use Rattle.stream.specs.declared.Run.{Run}
 use Rattle.stream.specs.Run.{One, Ran, through, rowOn, Comes}
+use Rattle.stream.proofs.Laws.{through-same}
 use Rattle.stream.proofs.Ends.{through-whole, through-ended}
 use Rattle.report.specs.Calls as report
-use Rattle.batch.specs.Batch.{rowUnder}
-use Rattle.batch.proofs.Laws.{through-on}
+use Rattle.report.specs.Calls.{rowUnder}
+use Rattle.report.proofs.Checked.{row-on}
 use Rattle.feeder.specs.declared.Feeder.{Feeder}
 use Rattle.feeder.specs.declared.FeederCall.{FeederCall}
 use Rattle.feeder.specs.declared.FeederCall.the-variants.{Initiate, Feed, Terminate}
@@ -159,7 +160,7 @@ module _ (d : List ℕ) (e : checked d ≡ Accepted) where
 
   call-tables : (f : Feeder) (a : FeederCall) (chunk out : List ℕ) → callOn h t (rowUnder d (f .detail)) (report.terminate d (f .state) out) f a chunk out ≡ callOn h t (rowOn h t (literals d) (f .detail)) (calls.callOn h t (literals d) (f .state) asked.Terminate [] out) f a chunk out
   call-tables f Initiate chunk out = refl
-  call-tables f Feed chunk out = ap (λ (x : Ran). unless f out (fedBy f chunk x) (tried h t f Feed)) (through-on d e (f .detail) (joined f chunk) (h .reclen) (f .state) out)
+  call-tables f Feed chunk out = ap (λ (x : Ran). unless f out (fedBy f chunk x) (tried h t f Feed)) (through-same (rowUnder d (f .detail)) (rowOn h t (literals d) (f .detail)) (row-on d e (f .detail)) (joined f chunk) (h .reclen) (f .state) out)
   call-tables f Terminate chunk out = ap (λ (y : Result). unless f out (endedIf f y out) (tried h t f Terminate)) (terminate-on (f .state) out)
 
 module _ (d : List ℕ) (f : Feeder) (a : FeederCall) (chunk out : List ℕ) (r : Fed) (new : List ℕ) where

@@ -21,7 +21,7 @@ use Rattle.answer.specs.Result.{Result}
 use Rattle.report.specs.Calls as report
 use Rattle.stream.specs.declared.Run.{Run}
 use Rattle.stream.specs.Run.{One, Ran, through}
-use Rattle.batch.specs.Batch.{rowUnder}
+use Rattle.report.specs.Calls.{rowUnder}
 use Rattle.feeder.specs.declared.Feeder.{Feeder}
 use Rattle.feeder.specs.declared.FeederCall.{FeederCall}
 use Rattle.feeder.specs.declared.FeederCall.the-variants.{Initiate, Feed, Terminate}

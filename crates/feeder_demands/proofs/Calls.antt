@@ -33,7 +33,7 @@ use Rattle.every_call.proofs.Rules.{fresh-stands, begun-stands, call-stands}
 use Rattle.stream.specs.Run.{Ran, begun, ran, through}
 use Rattle.stream.proofs.Ends.{through-ended}
 use Rattle.report.specs.Calls as report
-use Rattle.batch.specs.Batch.{rowUnder}
+use Rattle.report.specs.Calls.{rowUnder}
 use Rattle.feeder.specs.declared.Feeder.{Feeder}
 use Rattle.feeder.specs.declared.FeederVerdict.{FeederVerdict}
 use Rattle.feeder.specs.declared.FeederVerdict.the-variants.{Chunk, Unfinished, Call}

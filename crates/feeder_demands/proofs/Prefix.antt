@@ -18,7 +18,7 @@ use Rattle.verdict.specs.Verdict.{accepted}
 use Rattle.answer.specs.Result.{Result}
 use Rattle.stream.specs.Run.{One, Ran, further, halted, next, goes, ran, begun, through}
 use Rattle.stream.proofs.Laws.{stays, here}
-use Rattle.batch.specs.Batch.{rowUnder}
+use Rattle.report.specs.Calls.{rowUnder}
 use Rattle.book.specs.Demand.{Done, taken, run}
 use Rattle.feeder_demands.specs.Demand.{generates}
 

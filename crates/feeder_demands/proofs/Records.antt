@@ -30,7 +30,7 @@ use Rattle.every_call.proofs.Branches.{each-call}
 use Rattle.every_call.proofs.Rules.{call-stands}
 use Rattle.report.specs.Calls as report
 use Rattle.stream.specs.Run.{Ran, further, halted, next, goes, ran}
-use Rattle.batch.specs.Batch.{rowUnder}
+use Rattle.report.specs.Calls.{rowUnder}
 use Rattle.book.specs.Book.{generate}
 use Rattle.book.specs.Demand.{Use, run, printed}
 use Rattle.demands.specs.Calls.{Works, Refuses}

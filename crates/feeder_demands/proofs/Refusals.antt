@@ -40,7 +40,7 @@ use Rattle.every_call.proofs.Rules.{call-stands}
 use Rattle.report.specs.Calls as report
 use Rattle.stream.specs.Run.{Ran, further, halted, goes, begun, through}
 use Rattle.stream.proofs.Ends.{through-whole}
-use Rattle.batch.specs.Batch.{rowUnder}
+use Rattle.report.specs.Calls.{rowUnder}
 use Rattle.feeder.specs.declared.Feeder.{Feeder}
 use Rattle.feeder.specs.declared.FeederVerdict.{FeederVerdict}
 use Rattle.feeder.specs.declared.FeederVerdict.the-variants.{Chunk, Unfinished, Call}

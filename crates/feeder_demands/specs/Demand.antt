@@ -18,7 +18,7 @@ use Rattle.state.specs.State.{freshAt}
 use Rattle.refusals.specs.declared.Tried.{Tried}
 use Rattle.refusals.specs.declared.Tried.the-variants.{Passed, Refused}
 use Rattle.stream.specs.Run.{Ran, next, goes, begun}
-use Rattle.batch.specs.Batch.{rowUnder}
+use Rattle.report.specs.Calls.{rowUnder}
 use Rattle.feeder.specs.declared.Feeder.{Feeder}
 use Rattle.feeder.specs.declared.FeederCall.the-variants.{Feed}
 use Rattle.feeder.specs.declared.FeederVerdict.the-variants.{Call}

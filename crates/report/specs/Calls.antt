@@ -28,5 +28,9 @@ initiate d s out = call d s Initiate [] out
 abbrev pub generate : List ℕ → State → ℕ → List ℕ → List ℕ → Result
 generate d s detail row out = call d s (Generate detail) row out
 
+-- GENERATE as what one record of many comes to, by the state, the record and the output
+abbrev pub rowUnder : List ℕ → ℕ → State → List ℕ → List ℕ → Result
+rowUnder d detail s row out = generate d s detail row out
+
 abbrev pub terminate : List ℕ → State → List ℕ → Result
 terminate d s out = call d s Terminate [] out

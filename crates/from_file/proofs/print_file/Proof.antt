@@ -1,4 +1,4 @@
--- `sheet::print_file` meets its contract. The invariant: what waits is inside the output, the records in hand inside the buffer.
+-- `from_file::print_file` meets its contract. The invariant: what waits is inside the output, the records in hand inside the buffer.
 -- Assumes nothing.
 use Prim.Native.Nat.{_≤_}
 use mathlib.Core.Path.{_≡_}
@@ -6,8 +6,8 @@ use native.Mathlib.Nat.{mod-le}
 use native.Mathlib.Omega.{arith}
 use borrow.Author.Needs.{needs}
 use lib.ListN.{length}
-use Rattle.sheet.proofs.print_file.Statement.{statement}
-use Rattle.sheet.proofs.print_file.Tie as tie
+use Rattle.from_file.proofs.print_file.Statement.{statement}
+use Rattle.from_file.proofs.print_file.Tie as tie
 
 abbrev Inv-loop : tie.InvT-loop
 Inv-loop d fd path size progress buffer₀ out₀ room part sheet₀ turns₀ buffer out sheet turns =
