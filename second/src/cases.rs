@@ -35,11 +35,12 @@ pub fn description(rng: &mut Rng) -> Vec<u8> {
 
 /// A random description that keeps D1 to D8.
 pub fn accepted_description(rng: &mut Rng) -> Vec<u8> {
-    if rng.chance(97) {
-        valid::draft(rng).bytes()
-    } else {
-        valid::rich(rng).bytes()
-    }
+    let draft = match rng.below(100) {
+        0..=2 => valid::rich(rng),
+        3..=17 => valid::turning(rng),
+        _ => valid::draft(rng),
+    };
+    draft.bytes()
 }
 
 /// `calls` steps for a description, accepted or not.

@@ -10,7 +10,7 @@ use second::state::State;
 use second::{cases, description, source};
 
 const USAGE: &str = "\
-second: document 01, and R-1 of document 02, a second time, on its own
+second: document 01, and R-1 and R-2 of document 02, a second time, on its own
 
 usage: second COMMAND ...
 

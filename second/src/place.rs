@@ -1,4 +1,5 @@
-//! Where groups land: pages and line numbers. Nothing is written here.
+//! Where groups land: pages and line numbers, and the indicate flags, which page changes set and details clear.
+//! Nothing is written here.
 
 use crate::description::{
     Description, Group, CF, LINE_ABSOLUTE, LINE_NEXT_PAGE, LINE_RELATIVE, NEXT_ABSOLUTE, NEXT_PAGE,
@@ -8,10 +9,10 @@ use crate::starts::{
     first_integer, first_kind, first_page_heading_line, later_page_heading_line, report_footing_line,
     report_heading_line,
 };
-use crate::state::LAST_PAGE;
+use crate::state::{set_flags, LAST_PAGE};
 use crate::turns::Turn;
 
-/// The place on the sheet.
+/// The place on the sheet, with the flags: R-2 has them follow the page.
 #[derive(Clone, Copy, Debug, PartialEq, Eq)]
 pub struct Place {
     pub page: u32,
@@ -20,6 +21,8 @@ pub struct Place {
     pub seen: bool,
     /// The saved integer; 0 is none.
     pub saved: u32,
+    /// "Eight indicate flags, one a detail."
+    pub flags: [u8; 8],
 }
 
 /// One group put at a page and a first line. `turn` is the turn it prints in.
@@ -28,6 +31,8 @@ pub struct Landed<'a> {
     pub group: usize,
     pub page: u32,
     pub first_line: u32,
+    /// Whether indicated items print.
+    pub indicates: bool,
     pub turn: &'a Turn,
 }
 
@@ -74,8 +79,18 @@ impl<'a> Sheet<'a, '_> {
 
     /// "After any group prints, line is its last line x."
     fn print(&mut self, group: usize, first_line: u32, turn: &'a Turn) {
-        self.landed.push(Landed { group, page: self.place.page, first_line, turn });
+        let indicates = self.take_flag(group);
+        self.landed.push(Landed { group, page: self.place.page, first_line, indicates, turn });
         self.place.line = first_line + self.d.span(&self.d.groups[group]);
+    }
+
+    /// "Printing a detail that has lines clears its flag." Gives the flag as it stood: its items are indicated now
+    /// or not at all. Only details have one.
+    fn take_flag(&mut self, group: usize) -> bool {
+        match self.d.detail_number(group) {
+            Some(number) => std::mem::take(&mut self.place.flags[number]) == 1,
+            None => false,
+        }
     }
 
     /// "RF on next page: after PF, page rises by 1, line is 0, seen clears, no heading prints."
@@ -184,7 +199,8 @@ impl<'a> Sheet<'a, '_> {
         Ok(())
     }
 
-    /// Page rises by 1, line is 0, seen clears.
+    /// Page rises by 1, line is 0, seen clears. R-2: "a page change, RF's turn too, sets each detail's flag, also when
+    /// the detail itself causes it"; that detail prints after it, with its flag set.
     fn turn_page(&mut self) -> Result<(), PastLastPage> {
         if self.place.page >= LAST_PAGE {
             return Err(PastLastPage);
@@ -192,6 +208,7 @@ impl<'a> Sheet<'a, '_> {
         self.place.page += 1;
         self.place.line = 0;
         self.place.seen = false;
+        set_flags(self.d, &mut self.place.flags);
         Ok(())
     }
 

@@ -40,8 +40,8 @@ fn write_line(d: &Description, landed: &Landed, line: &Line, number: u32, record
     characters.fill(b' ');
     for item in d.items_of(line) {
         // "An item flagged indicate prints only the first time its detail prints after a control break; else
-        // blanks."
-        if item.indicate == 0 || landed.turn.indicates {
+        // blanks"; R-2: "also the first time its detail prints after a page change".
+        if item.indicate == 0 || landed.indicates {
             let start = usize::from(item.column) - 1;
             let part = &mut characters[start..start + usize::from(item.width)];
             write_item(d, landed, item, number, record, part);

@@ -115,7 +115,9 @@ fn put(
     record: &[u8],
     out: &mut [u8],
 ) -> Result<usize, Refusal> {
-    let (landed, place) = place::land(d, place_of(state), turns).map_err(|_| Refusal(8, 0))?;
+    // The flags that a break sets are set already. Page changes only set more, and the detail, which alone reads
+    // one, prints last: so the order of setting does not show.
+    let (landed, place) = place::land(d, place_of(next), turns).map_err(|_| Refusal(8, 0))?;
     let count = print::bytes_needed(d, &landed);
     if out.len() < count {
         return Err(Refusal(9, 0));
@@ -125,6 +127,7 @@ fn put(
     next.line = place.line as u16;
     next.seen = u8::from(place.seen);
     next.saved = place.saved as u16;
+    next.flags = place.flags;
     Ok(count)
 }
 
@@ -134,5 +137,6 @@ fn place_of(state: &State) -> Place {
         line: u32::from(state.line),
         seen: state.seen == 1,
         saved: u32::from(state.saved),
+        flags: state.flags,
     }
 }

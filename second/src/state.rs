@@ -131,6 +131,11 @@ pub fn sum_is_in_range(sum: i64) -> bool {
     (-SUM_LIMIT..=SUM_LIMIT).contains(&sum)
 }
 
+/// "Set each detail's indicate flag": those "beyond the description's are 0" and stay so.
+pub fn set_flags(d: &Description, flags: &mut [u8; 8]) {
+    flags[..d.detail_count()].fill(1);
+}
+
 /// `N` bytes from a place on.
 pub fn bytes_at<const N: usize>(bytes: &[u8], start: usize) -> [u8; N] {
     std::array::from_fn(|i| bytes[start + i])

@@ -173,6 +173,11 @@ impl Description {
         self.indexes_of(DE).nth(d as usize)
     }
 
+    /// The detail number of the group at an index; `None` where that is no detail.
+    pub fn detail_number(&self, group: usize) -> Option<usize> {
+        self.indexes_of(DE).position(|detail| detail == group)
+    }
+
     pub fn detail_count(&self) -> usize {
         self.indexes_of(DE).count()
     }

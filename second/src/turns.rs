@@ -1,9 +1,9 @@
-//! Which groups are due in a call, and what becomes of the sums, the indicate flags and the kept record.
-//! Nothing is placed or printed here.
+//! Which groups are due in a call, what becomes of the sums and the kept record, and the indicate flags that a
+//! break sets. Nothing is placed or printed here.
 
 use crate::description::{Description, CF, CH, FINAL, PF, PH, RF, RH};
 use crate::record;
-use crate::state::{State, RUNNING, STARTED};
+use crate::state::{set_flags, State, RUNNING, STARTED};
 use crate::sums::{self, OutOfRange, Sums};
 
 /// One group whose turn has come.
@@ -15,8 +15,6 @@ pub struct Turn {
     pub sums: Sums,
     /// Whether it reads fields from the kept record handed in; else it reads the record in hand.
     pub reads_kept: bool,
-    /// Whether indicated items print.
-    pub indicates: bool,
     /// Whether its next group is obeyed.
     pub obeys_next: bool,
 }
@@ -24,12 +22,12 @@ pub struct Turn {
 impl Turn {
     /// A group that reads the record in hand.
     fn new(group: usize, sums: &Sums) -> Turn {
-        Turn { group, sums: *sums, reads_kept: false, indicates: false, obeys_next: true }
+        Turn { group, sums: *sums, reads_kept: false, obeys_next: true }
     }
 }
 
 /// The groups due in a GENERATE, in order. `number` is the detail's number, `detail` its group's index.
-/// All of the next state but its place on the sheet is left in `state`.
+/// All of the next state is left in `state`, but for its place on the sheet and what landing makes of the flags.
 pub fn of_generate(
     d: &Description,
     state: &mut State,
@@ -54,12 +52,7 @@ pub fn of_generate(
         control_headings(d, state, b, &mut turns);
     }
     sums::subtotal(d, &mut state.sums, number, record)?;
-    let indicates = state.flags[number] == 1;
-    turns.push(Turn { indicates, ..Turn::new(detail, &state.sums) });
-    // "Printing a detail that has lines clears its flag."
-    if d.groups[detail].line_count > 0 {
-        state.flags[number] = 0;
-    }
+    turns.push(Turn::new(detail, &state.sums));
     Ok(turns)
 }
 
@@ -79,7 +72,7 @@ pub fn of_terminate(d: &Description, state: &mut State) -> Result<Vec<Turn>, Out
 /// "Keep the record and set indicate flags."
 fn begin_control_group(d: &Description, state: &mut State, record: &[u8]) {
     state.keep(record);
-    state.flags[..d.detail_count()].fill(1);
+    set_flags(d, &mut state.flags);
 }
 
 /// "CHs from b down."

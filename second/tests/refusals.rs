@@ -65,7 +65,7 @@ const DESERVE: [Deserve; 9] = [
 fn the_call_itself_is_accepted() {
     let (answer, out) = Call::new().make();
     assert_eq!((answer.number, answer.extra, answer.count), (0, 0, 44));
-    assert_eq!(out, b"000004001PAGE  4     \n000004003        9   \n");
+    assert_eq!(out, b"000004001PAGE  4     \n000004003BB      9   \n");
 }
 
 #[test]
@@ -295,7 +295,9 @@ fn refusal_8_at_the_report_footings_turn() {
     let answer = terminate(&desc.bytes(), &state, &mut out);
     assert_eq!((answer.number, answer.count), (0, 26));
     assert_eq!(&out[..26], b"999998009PF \n999999005RF \n");
-    assert_eq!(answer.state, State { phase: IDLE, page: 999_999, line: 5, seen: 0, ..state.clone() });
+    // "RF's turn too, sets each detail's flag".
+    let flags = [1, 0, 0, 0, 0, 0, 0, 0];
+    assert_eq!(answer.state, State { phase: IDLE, page: 999_999, line: 5, seen: 0, flags, ..state.clone() });
     // A lineless RF asks for no page.
     desc.tables.groups[2].line_count = 0;
     desc.tables.lines.pop();

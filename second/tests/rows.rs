@@ -5,6 +5,7 @@ mod common;
 use common::{item, marked_page, Run};
 use second::builder::Builder;
 use second::description::*;
+use second::report::{generate, terminate};
 use second::state::{State, IDLE, RUNNING};
 
 /// Adds a group of one line that shows a literal.
@@ -156,15 +157,123 @@ fn indicate_shows_once_after_a_break() {
         assert_eq!(run.state.flags[..3], flags);
     }
     assert_eq!(printed(&run), ["1/3 D0a01", "1/4 D0 02", "1/5 D1a03", "1/6 D1b05", "1/7 D0b06"]);
-    // "First time after a control break": a new page alone shows nothing.
-    run.sheet.clear();
-    run.state.line = 50;
-    run.generate(0, b"b07");
-    assert_eq!(printed(&run), ["2/3 D0 07"]);
-    // TERMINATE sets no flag and keeps no record.
+    // TERMINATE's break sets no flag and keeps no record.
     run.terminate();
     assert_eq!(run.state.flags[..3], [0, 0, 1]);
     assert_eq!(run.state.kept[..4], *b"b05\0");
+}
+
+/// A control with both its groups, two details that indicate it, a third without lines. P 10, H 1, FD 3, LD 6, FT 8.
+fn indicating() -> Builder {
+    let mut b = marked_page(6, 3);
+    let (agent, note) = (b.text(0, 1), b.text(1, 2));
+    b.control(agent);
+    says(&mut b, CH, 0, LINE_RELATIVE, 1, "CH");
+    for name in ["D0", "D1"] {
+        says(&mut b, DE, 0, LINE_RELATIVE, 1, name);
+        b.item(Item { indicate: 1, ..item(3, 1, FIELD, agent) });
+        b.item(item(4, 2, FIELD, note));
+    }
+    b.group(DE, 0);
+    says(&mut b, CF, 0, LINE_RELATIVE, 1, "CF");
+    b
+}
+
+/// A report under way on page 1, agent a, every flag clear.
+fn at_line(b: &Builder, line: u16) -> Run {
+    let mut state = State { phase: RUNNING, line, seen: 1, ..State::fresh() };
+    state.keep(b"a00");
+    Run::from(&b.bytes(), state)
+}
+
+/// Flags of the three details; "flags beyond the description's are 0".
+fn flags(first: u8, second: u8, third: u8) -> [u8; 8] {
+    [first, second, third, 0, 0, 0, 0, 0]
+}
+
+#[test]
+fn a_page_change_sets_each_flag_also_when_the_detail_itself_causes_it() {
+    let mut run = at_line(&indicating(), 6);
+    run.generate(0, b"a01");
+    assert_eq!(run.state.flags, flags(0, 1, 1));
+    // The other details keep theirs until they print.
+    run.generate(0, b"a02");
+    assert_eq!(run.state.flags, flags(0, 1, 1));
+    run.generate(1, b"a03").generate(1, b"a04");
+    assert_eq!(run.state.flags, flags(0, 0, 1));
+    assert_eq!(printed(&run), ["2/3 D0a01", "2/4 D0 02", "2/5 D1a03", "2/6 D1 04"]);
+}
+
+#[test]
+fn two_page_changes_show_an_indicated_item_once() {
+    let mut run = at_line(&indicating(), 8);
+    run.state.saved = 6;
+    run.generate(1, b"a01").generate(1, b"a02");
+    assert_eq!(printed(&run), ["3/3 D1a01", "3/4 D1 02"]);
+    assert_eq!(run.state.flags, flags(1, 0, 1));
+}
+
+#[test]
+fn a_page_change_for_a_footing_or_a_heading_counts_too() {
+    // The page ends before the footing, before the heading, before the detail.
+    for (line, lines) in [
+        (8, ["2/3 CF", "2/4 CH", "2/5 D0b01"]),
+        (6, ["1/7 CF", "2/3 CH", "2/4 D0b01"]),
+        (4, ["1/5 CF", "1/6 CH", "2/3 D0b01"]),
+    ] {
+        let mut run = at_line(&indicating(), line);
+        run.generate(0, b"b01");
+        assert_eq!(printed(&run), lines);
+        assert_eq!(run.state.flags, flags(0, 1, 1));
+    }
+}
+
+#[test]
+fn a_detail_without_lines_turns_no_page_and_keeps_every_flag() {
+    for before in [flags(0, 1, 0), flags(1, 0, 1)] {
+        let mut run = at_line(&indicating(), 8);
+        run.state.flags = before;
+        run.generate(2, b"a01");
+        assert_eq!((run.state.page, run.state.flags), (1, before));
+    }
+    // A footing before it turns the page: nothing clears a flag.
+    let mut run = at_line(&indicating(), 8);
+    run.generate(2, b"b01");
+    assert_eq!((run.state.page, run.state.flags), (2, flags(1, 1, 1)));
+}
+
+#[test]
+fn terminate_leaves_the_flags_that_its_page_changes_set() {
+    // (line before the footing, RF's first line, page and flags left)
+    for (line, rf, page, left) in [
+        (7, (LINE_RELATIVE, 1), 1, flags(0, 0, 0)),
+        (8, (LINE_RELATIVE, 1), 2, flags(1, 1, 1)),
+        (7, (LINE_NEXT_PAGE, 1), 2, flags(1, 1, 1)),
+        (8, (LINE_NEXT_PAGE, 1), 3, flags(1, 1, 1)),
+    ] {
+        let mut b = indicating();
+        says(&mut b, RF, 0, rf.0, rf.1, "RF");
+        let mut run = at_line(&b, line);
+        run.terminate();
+        assert_eq!((run.state.page, run.state.flags), (page, left));
+    }
+}
+
+#[test]
+fn a_refused_call_leaves_the_flags() {
+    let mut b = indicating();
+    says(&mut b, RF, 0, LINE_NEXT_PAGE, 1, "RF");
+    let desc = b.bytes();
+    let mut state = at_line(&b, 6).state;
+    state.flags = flags(0, 1, 0);
+    // The detail's page change needs room for one line, TERMINATE's CF and RF for two; both would set flags.
+    for (page, room, number) in [(999_999, 32, 8), (1, 15, 9)] {
+        state.page = page;
+        let row = generate(&desc, &state, 0, b"a01", &mut vec![0; room]);
+        assert_eq!((row.number, row.state), (number, state.clone()));
+        let end = terminate(&desc, &state, &mut vec![0; room]);
+        assert_eq!((end.number, end.state), (number, state.clone()));
+    }
 }
 
 #[test]

@@ -8,7 +8,7 @@ use mathlib.Core.List.{List}
 use mathlib.Core.Logic.{⊎-elim}
 use native.Mathlib.Omega.{arith}
 use borrow.Author.Tests.{eqb-true, eqb-false}
-use lib.Dec.{eqb}
+use lib.Dec.{ltb, eqb}
 use lib.IntN.{pos}
 use lib.ListN.{length, getD, set, length-set, length-replicate}
 use Rattle.counts.proofs.Laws.{by-test, by-cond}
@@ -27,7 +27,7 @@ use Rattle.pagination.proofs.Calls.{first-placed, later-placed, last-placed, de
 use Rattle.accepted.specs.Accepted.{Accepted}
 use Rattle.state.specs.declared.State.{State}
 use Rattle.state.specs.State.{idle, started, running, flagCount, keptSize, sumCount, freshAt}
-use Rattle.state.specs.Kept.{paddedRow, flagsSet, cleared, breaks}
+use Rattle.state.specs.Kept.{paddedRow, flagsSet, flagsIf, cleared, breaks}
 use Rattle.state_rules.specs.Facts.{PageIn, RunningState}
 use Rattle.state.specs.State.{Sized}
 use Rattle.state_rules.proofs.States.{idle-ok, fresh-ok, started-facts, started-ok, running-facts, running-ok, by-phase}
@@ -68,6 +68,9 @@ module _ (h : Head) (t lits : List ℕ) (A : Accepted h t lits) where
 
   flags-set : FlagsIn (flagsSet (details h t))
   flags-set = record { long = length-flagsSet (details h t); end = flagsSet-beyond (details h t) }
+
+  flags-if : (set : Bool) (flags : List Bool) → FlagsIn flags → FlagsIn (flagsIf h t set flags)
+  flags-if set flags f = by-cond FlagsIn set (λ e. flags-set) (λ e. f)
 
   flags-cleared : (detail : ℕ) (flags : List Bool) → FlagsIn flags → FlagsIn (cleared h t detail flags)
   flags-cleared detail flags f =
@@ -151,6 +154,9 @@ module _ (h : Head) (t lits : List ℕ) (A : Accepted h t lits) where
       good : GoodSums (h .counters) (s .sums)
       good = good-sums facts (S .sized .sumsLong)
 
+      flags-in : FlagsIn (s .flags)
+      flags-in = record { long = S .sized .flagsLong; end = facts .beyondFlags }
+
       pub running-page : 1 ≤ s .page
       running-page = facts .first
 
@@ -171,7 +177,7 @@ module _ (h : Head) (t lits : List ℕ) (A : Accepted h t lits) where
               small = omega (arith, last-laid 0 .saved, A .pageFits .ftPage, A .pageFits .page999);
               inRange = last-good h t (A .countersIn .few) (s .sums) good .sums .range;
             });
-        sized = record { sumsLong = last-good h t (A .countersIn .few) (s .sums) good .sums .long; flagsLong = S .sized .flagsLong; keptLong = S .sized .keptLong };
+        sized = record { sumsLong = last-good h t (A .countersIn .few) (s .sums) good .sums .long; flagsLong = flags-if (ltb (s .page) (lastWork h t lits s .laid .to .page)) (s .flags) flags-in .long; keptLong = S .sized .keptLong };
       }
 
       -- and a later row
@@ -190,7 +196,7 @@ module _ (h : Head) (t lits : List ℕ) (A : Accepted h t lits) where
             (record {
               phase = refl;
               sums = later-good h t (A .countersIn .few) (s .sums) good row detail level .sums;
-              flags = flags-cleared detail _ (by-cond FlagsIn (breaks h level) (λ q. flags-set) (λ q. record { long = S .sized .flagsLong; end = facts .beyondFlags }));
+              flags = flags-cleared detail _ (flags-if (ltb (s .page) (laterWork h t lits s detail row .laid .to .page)) _ (flags-if (breaks h level) (s .flags) flags-in));
               kept = by-cond KeptIn (breaks h level) (λ q. row-kept detail row R) (λ q. record { long = S .sized .keptLong; good = facts .formed; end = facts .beyondRow });
               place = later-laid 0 .running;
               page = omega (arith, later-laid 0 .pages, facts .first);

@@ -3,9 +3,9 @@ ghost use Prim.Native.Nat.{_+_, _*_, _≤_, _<_};
 ghost use Rattle.lines.specs.Bounded.{Bounded};
 ghost use Rattle.shape.specs.Facts.{Small};
 ghost use Rattle.plan.specs.Plan.{turns};
-ghost use Rattle.layout.specs.Layout.{placeGroup, placeAll, opened, closed, layout as layoutSpec};
+ghost use Rattle.layout.specs.Layout.{placeGroup, placeAll, opened, closed};
 ghost use Rattle.layout.specs.Facts.{Ready, Called};
-ghost use Rattle.measure.specs.Measure.{linesDue, pairLines, added, measured, Counted};
+ghost use Rattle.measure.specs.Measure.{linesDue, pairLines, added, measured, Counted, Measures};
 use layout::Pos;
 use plan::Plan;
 use plan::Turn;
@@ -113,7 +113,7 @@ fn measure_closing(t: &[u16], h: Head, p: Plan, m: Measured) -> Measured
 // A whole call measured.
 pub fn measure(t: &[u16], h: Head, p: Plan, s: Pos) -> Measured
     requires { ⌜ Called h (now t) p s ⌝ }
-    ensures { λ r. ⌜ Counted (measured h (now (t .entry)) (layoutSpec h (now (t .entry)) p s)) 6000000 r ⌝ }
+    ensures { λ r. ⌜ Measures h (now (t .entry)) p s r ⌝ }
 {
     let first = measure_opening(t, h, p, s);
     let body = measure_turns(t, h, p, first);

@@ -19,6 +19,10 @@ paddedRow row = splice (replicate keptSize 0) 0 row
 unfoldable pub flagsSet : ℕ → List Bool
 flagsSet n = listBelow flagCount (λ i. ltb i n)
 
+-- those of every described detail set, or all as they were
+abbrev pub flagsIf : Head → List ℕ → Bool → List Bool → List Bool
+flagsIf h t set flags = cond set (flagsSet (details h t)) flags
+
 -- "Printing a detail that has lines clears its flag."
 abbrev pub cleared : Head → List ℕ → ℕ → List Bool → List Bool
 cleared h t detail flags = cond (eqb (lineCount h t (theDetail h t detail)) 0) flags (set flags detail false)
@@ -28,7 +32,12 @@ abbrev pub breaks : Head → ℕ → Bool
 breaks h b = ltb b (h .controls)
 
 abbrev pub flagsAt : Head → List ℕ → ℕ → List Bool → List Bool
-flagsAt h t b flags = cond (breaks h b) (flagsSet (details h t)) flags
+flagsAt h t b flags = flagsIf h t (breaks h b) flags
+
+-- document 02, R-2: "a page change, RF's turn too, sets each detail's flag, also when the detail itself causes it". From one page to another: "A page
+-- change .. adds 1 to page", and nothing else does
+abbrev pub flagsTurned : Head → List ℕ → ℕ → ℕ → List Bool → List Bool
+flagsTurned h t from to flags = flagsIf h t (ltb from to) flags
 
 abbrev pub keptAt : Head → ℕ → List ℕ → List ℕ → List ℕ
 keptAt h b row kept = cond (breaks h b) (paddedRow row) kept

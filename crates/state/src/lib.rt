@@ -4,7 +4,7 @@ ghost use Prim.Native.Nat.{_≤_, _<_};
 ghost use lib.ListN.{length};
 ghost use Rattle.lookup.specs.Find.{theDetail};
 ghost use Rattle.state.specs.State.{idle, flagCount, keptSize, freshAt};
-ghost use Rattle.state.specs.Kept.{paddedRow, flagsSet, cleared as clearedSpec, flagsAt, keptAt};
+ghost use Rattle.state.specs.Kept.{paddedRow, flagsSet, flagsIf, cleared as clearedSpec, flagsAt, flagsTurned, keptAt};
 use tables::Head;
 
 // The sums, the indicate flags and the bytes of the kept record that a state has.
@@ -102,15 +102,35 @@ pub fn cleared(
     next
 }
 
-// The flags at a break at level `b`: all set; without a break as they were.
-pub fn flags_at(t: &[u16], h: Head, b: usize, flags: [bool; FLAG_COUNT]) -> [bool; FLAG_COUNT]
-    ensures { λ r. ⌜ r ≡ flagsAt h (now (t .entry)) b flags ⌝ }
+// The flags of all described details set, or all as they were.
+fn flags_if(t: &[u16], h: Head, set: bool, flags: [bool; FLAG_COUNT]) -> [bool; FLAG_COUNT]
+    ensures { λ r. ⌜ r ≡ flagsIf h (now (t .entry)) set flags ⌝ }
 {
-    if b < tables::wide(h.controls) {
+    if set {
         flags_set(lookup::details_of(t, h))
     } else {
         flags
     }
+}
+
+// The flags at a break at level `b`: all set; without a break as they were.
+pub fn flags_at(t: &[u16], h: Head, b: usize, flags: [bool; FLAG_COUNT]) -> [bool; FLAG_COUNT]
+    ensures { λ r. ⌜ r ≡ flagsAt h (now (t .entry)) b flags ⌝ }
+{
+    flags_if(t, h, b < tables::wide(h.controls), flags)
+}
+
+// The flags after the page changes from one page to another: all set; on the same page as they were.
+pub fn flags_turned(
+    t: &[u16],
+    h: Head,
+    from: u32,
+    to: u32,
+    flags: [bool; FLAG_COUNT],
+) -> [bool; FLAG_COUNT]
+    ensures { λ r. ⌜ r ≡ flagsTurned h (now (t .entry)) from to flags ⌝ }
+{
+    flags_if(t, h, from < to, flags)
 }
 
 // The record kept after a row with a break at level `b`; without a break the older one stays.

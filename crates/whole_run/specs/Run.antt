@@ -57,7 +57,7 @@ calls =
 abbrev pub answers : List ℕ
 answers = 0 ∷ 0 ∷ 0 ∷ 0 ∷ 0 ∷ 0 ∷ []
 
--- "176 bytes"
+-- "176 bytes", with document 02's R-2: "the line on page 2, line 3 becomes "BB......9...""
 unfoldable pub sheet : List ℕ
 sheet =
     lines
@@ -67,6 +67,6 @@ sheet =
     ∷ "000001005SUM    12   "
     ∷ "000001006BB     -2   "
     ∷ "000002001PAGE  2     "
-    ∷ "000002003        9   "
+    ∷ "000002003BB      9   "
     ∷ "000002004SUM     7   "
     ∷ [])

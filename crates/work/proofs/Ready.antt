@@ -15,6 +15,7 @@ use Rattle.lookup.specs.Find.{theDetail}
 use Rattle.rows.specs.Facts.{Formed, Comparable}
 use Rattle.sums.specs.Sums.{sumsOk}
 use Rattle.sums.specs.Facts.{CountersIn, Adding}
+use Rattle.sums.specs.declared.Totals.{Totals}
 use Rattle.amounts.specs.Totals.{fresh, totalsFirst, totalsLater, totalsLast}
 use Rattle.amounts.proofs.Good.{GoodSums, zeros-good, first-good, later-good, last-good}
 use Rattle.place.specs.Place.{lastPage}
@@ -82,14 +83,14 @@ module _ {h : Head} {t lits : List ℕ} {s : State} {detail : ℕ} {row : List �
   pub first-adding : Adding h t row detail (fresh (s .sums))
   first-adding = adding p (zero-sums .range)
 
-  pub first-prints : {g : ℕ} → g ≤ h .groups
-      → Called h t (firstPlan h g) (placeOf s) × (Printable h t (reading lits (paddedRow row) row (totalsFirst h t row detail (s .sums) .shown) true noPrefix) × (length (totalsFirst h t row detail (s .sums) .shown) ≡ sumCount))
-  first-prints l =
+  pub first-called : {g : ℕ} {q : Plan} {at : Pos} → q ≡ firstPlan h g → at ≡ placeOf s → g ≤ h .groups → Called h t q at
+  first-called e f l = rw (e, f) (called (p .0 .accepted) (record { level = omega arith; feet = omega arith; heads = p .0 .accepted .controls8; detail = l }) (omega (arith, ap (λ (x : State). x .page) fresh-one)))
+
+  pub first-printable : {totals : Totals} {kept : List ℕ} → totals ≡ totalsFirst h t row detail (s .sums) → kept ≡ paddedRow row → Printable h t (reading lits kept row (totals .shown) true noPrefix) × (length (totals .shown) ≡ sumCount)
+  first-printable e k =
       let A = p .0 .accepted in
-      let n = first-good h t (A .countersIn .few) (s .sums) zero-sums row detail .long in (
-        called A (record { level = omega arith; feet = omega arith; heads = A .controls8; detail = l }) (omega (arith, ap (λ (x : State). x .page) fresh-one)),
-        (printable A (paddedRow row) row _ true (padded-whole row (A .fieldsIn) (omega (arith, p .1 .0 .long)) (row-short p) (p .1 .0 .good)) (row-formed p) n, n),
-      )
+      let n = first-good h t (A .countersIn .few) (s .sums) zero-sums row detail .long in
+      rw (e, k) (printable A (paddedRow row) row _ true (padded-whole row (A .fieldsIn) (omega (arith, p .1 .0 .long)) (row-short p) (p .1 .0 .good)) (row-formed p) n, n)
 
 -- ---- a running state
 pub good-sums : {h : Head} {t : List ℕ} {s : State} → RunningState h t s → length (s .sums) ≡ sumCount → GoodSums (h .counters) (s .sums)
@@ -109,13 +110,13 @@ module _ {h : Head} {t lits : List ℕ} {s : State} (S : Stands h t lits s) (e :
   pub last-adding : CountersIn h t × (sumsOk (s .sums) ≡ true)
   last-adding = (S .accepted .countersIn, facts .inRange)
 
-  pub last-prints : Called h t (lastPlan h) (placeOf s) × (Printable h t (reading lits (s .kept) (s .kept) (totalsLast h t (s .sums) .shown) false noPrefix) × (length (totalsLast h t (s .sums) .shown) ≡ sumCount))
-  last-prints =
-      let A = S .accepted in
-      let n = last-good h t (A .countersIn .few) (s .sums) (good-sums facts (S .sized .sumsLong)) .long in (
-        called A (record { level = omega arith; feet = A .controls8; heads = omega arith; detail = omega arith }) (facts .last),
-        (printable A (s .kept) (s .kept) _ false kept-in kept-in n, n),
-      )
+  pub last-called : {q : Plan} {at : Pos} → q ≡ lastPlan h → at ≡ placeOf s → Called h t q at
+  last-called d f = rw (d, f) (called (S .accepted) (record { level = omega arith; feet = S .accepted .controls8; heads = omega arith; detail = omega arith }) (facts .last))
+
+  pub last-printable : {totals : Totals} → totals ≡ totalsLast h t (s .sums) → Printable h t (reading lits (s .kept) (s .kept) (totals .shown) false noPrefix) × (length (totals .shown) ≡ sumCount)
+  last-printable d =
+      let n = last-good h t (S .accepted .countersIn .few) (s .sums) (good-sums facts (S .sized .sumsLong)) .long in
+      rw d (printable (S .accepted) (s .kept) (s .kept) _ false kept-in kept-in n, n)
 
 -- and its row
 module _ {h : Head} {t lits : List ℕ} {s : State} {detail : ℕ} {row : List ℕ} (p : RowAt running h t lits s detail row) where
@@ -125,10 +126,12 @@ module _ {h : Head} {t lits : List ℕ} {s : State} {detail : ℕ} {row : List �
   pub later-adding : Adding h t row detail (fresh (s .sums))
   later-adding = adding p (facts (p .0) (p .1 .1) .inRange)
 
-  pub later-prints : {b g : ℕ} (flag : Bool) → b ≤ h .controls → g ≤ h .groups
-      → Called h t (laterPlan h b g) (placeOf s) × Printable h t (reading lits (s .kept) row (totalsLater h t row detail b (s .sums) .shown) flag noPrefix)
-  later-prints {b} flag m l =
-      let A = p .0 .accepted in (
-        called A (record { level = omega (arith, A .controls8); feet = omega (arith, A .controls8); heads = omega (arith, A .controls8); detail = l }) (facts (p .0) (p .1 .1) .last),
-        printable A (s .kept) row _ flag (kept-in (p .0) (p .1 .1)) (row-formed p) (later-good h t (A .countersIn .few) (s .sums) (good-sums (facts (p .0) (p .1 .1)) (p .0 .sized .sumsLong)) row detail b .long),
-      )
+  pub later-called : {b g : ℕ} {q : Plan} {at : Pos} → q ≡ laterPlan h b g → at ≡ placeOf s → b ≤ h .controls → g ≤ h .groups → Called h t q at
+  later-called {b} e f m l =
+      let A = p .0 .accepted in
+      rw (e, f) (called A (record { level = omega (arith, A .controls8); feet = omega (arith, A .controls8); heads = omega (arith, A .controls8); detail = l }) (facts (p .0) (p .1 .1) .last))
+
+  pub later-printable : {totals : Totals} (b : ℕ) (flag : Bool) → totals ≡ totalsLater h t row detail b (s .sums) → Printable h t (reading lits (s .kept) row (totals .shown) flag noPrefix)
+  later-printable b flag e =
+      let A = p .0 .accepted in
+      rw e (printable A (s .kept) row _ flag (kept-in (p .0) (p .1 .1)) (row-formed p) (later-good h t (A .countersIn .few) (s .sums) (good-sums (facts (p .0) (p .1 .1)) (p .0 .sized .sumsLong)) row detail b .long))

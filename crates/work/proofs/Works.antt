@@ -1,7 +1,7 @@
 -- From the parts that a call has worked out to the work that its definition names.
 -- Assumes nothing.
 use Prim.Native.Nat.{ℕ}
-use mathlib.Core.Path.{_≡_}
+use mathlib.Core.Path.{_≡_, refl}
 use mathlib.Core.Bool.{Bool, true, false}
 use mathlib.Core.List.{List}
 use lib.ListN.{getD}
@@ -12,28 +12,40 @@ use Rattle.sums.specs.declared.Totals.{Totals}
 use Rattle.amounts.specs.Totals.{totalsFirst, totalsLater, totalsLast}
 use Rattle.plan.specs.declared.Plan.{Plan}
 use Rattle.plan.specs.Plan.{firstPlan, laterPlan, lastPlan}
+use Rattle.printed.specs.Printed.{noPrefix}
+use Rattle.layout.specs.declared.Pos.{Pos}
+use Rattle.measure.specs.declared.Measured.{Measured}
+use Rattle.measure.specs.Measure.{Measures}
 use Rattle.pages.specs.declared.Job.{Job}
 use Rattle.state.specs.declared.State.{State}
 use Rattle.state.specs.State.{idle, running}
-use Rattle.state.specs.Kept.{paddedRow, flagsSet, cleared, flagsAt, keptAt}
+use Rattle.state.specs.Kept.{paddedRow, flagsSet, cleared, flagsAt, flagsTurned, keptAt}
 use Rattle.answer.specs.declared.Answer.{Answer}
-use Rattle.answer.specs.Result.{Returns}
+use Rattle.answer.specs.Result.{placeOf, Returns}
 use Rattle.work.specs.Work.{jobOf, prepared, settled}
-use Rattle.work.specs.Rows.{firstWork, laterWork, lastWork}
+use Rattle.work.specs.Rows.{turned, firstWork, laterWork, lastWork}
+
+-- a plan measured from the state's place: its job, and the flags after its page changes
+module _ (h : Head) (t : List ℕ) (s : State) (p : Plan) {pos : Pos} {m : Measured} (e : pos ≡ placeOf s) (x : Measures h t p pos m) where
+  pub job-is : {job : Job} (flag : Bool) → job ≡ record { plan = p; pos = pos; measured = m; flag = flag; prefix = noPrefix } → job ≡ jobOf h t s p flag
+  job-is flag j = rw (j, x .is, e) refl
+
+  pub turned-is : {set : List Bool} (flags : List Bool) → set ≡ flagsTurned h t (pos .page) (m .to .page) flags → set ≡ turned h t s p flags
+  turned-is flags q = rw (q, x .is, e) refl
 
 module _ (h : Head) (t lits : List ℕ) (s : State) (out : List ℕ) {r : Answer} {new : List ℕ} where
   module _ (detail : ℕ) (row : List ℕ) where
-    pub first-so : {totals : Totals} {g n : ℕ} {p : Plan} {job : Job} {kept : List ℕ} {set flags : List Bool} → totals ≡ totalsFirst h t row detail (s .sums) → g ≡ theDetail h t detail → p ≡ firstPlan h g → job ≡ jobOf s p true → kept ≡ paddedRow row → n ≡ details h t → set ≡ flagsSet n → flags ≡ cleared h t detail set
+    pub first-so : {totals : Totals} {g n : ℕ} {p : Plan} {job : Job} {kept : List ℕ} {set flags : List Bool} → totals ≡ totalsFirst h t row detail (s .sums) → g ≡ theDetail h t detail → p ≡ firstPlan h g → job ≡ jobOf h t s p true → kept ≡ paddedRow row → n ≡ details h t → set ≡ flagsSet n → flags ≡ cleared h t detail set
         → Returns (settled h t s (prepared h t lits kept row (record { state = s; totals = totals; job = job; phase = running; flags = flags; kept = kept })) out) r new → Returns (settled h t s (firstWork h t lits s detail row) out) r new
     unfolding firstWork
     first-so e1 e2 e3 j e4 e5 e6 e7 x = rw (e1, j, e3, e2, e4, e7, e6, e5) at x
 
-    pub later-so : {b g : ℕ} {totals : Totals} {p : Plan} {job : Job} {set flags : List Bool} {next : List ℕ} → b ≡ breakLevel h t (s .kept) row → totals ≡ totalsLater h t row detail b (s .sums) → g ≡ theDetail h t detail → p ≡ laterPlan h b g → set ≡ flagsAt h t b (s .flags) → job ≡ jobOf s p (getD set detail false) → flags ≡ cleared h t detail set → next ≡ keptAt h b row (s .kept)
+    pub later-so : {b g : ℕ} {totals : Totals} {p : Plan} {job : Job} {broken set flags : List Bool} {next : List ℕ} → b ≡ breakLevel h t (s .kept) row → totals ≡ totalsLater h t row detail b (s .sums) → g ≡ theDetail h t detail → p ≡ laterPlan h b g → broken ≡ flagsAt h t b (s .flags) → set ≡ turned h t s p broken → job ≡ jobOf h t s p (getD set detail false) → flags ≡ cleared h t detail set → next ≡ keptAt h b row (s .kept)
         → Returns (settled h t s (prepared h t lits (s .kept) row (record { state = s; totals = totals; job = job; phase = running; flags = flags; kept = next })) out) r new → Returns (settled h t s (laterWork h t lits s detail row) out) r new
     unfolding laterWork
-    later-so e1 e2 e3 e4 e5 j e6 e7 x = rw (e2, j, e4, e3, e6, e5, e7, e1) at x
+    later-so e1 e2 e3 e4 e5 e6 j e7 e8 x = rw (e2, j, e7, e6, e5, e4, e3, e8, e1) at x
 
-  pub last-so : {totals : Totals} {p : Plan} {job : Job} → totals ≡ totalsLast h t (s .sums) → p ≡ lastPlan h → job ≡ jobOf s p false
-      → Returns (settled h t s (prepared h t lits (s .kept) (s .kept) (record { state = s; totals = totals; job = job; phase = idle; flags = s .flags; kept = s .kept })) out) r new → Returns (settled h t s (lastWork h t lits s) out) r new
+  pub last-so : {totals : Totals} {p : Plan} {job : Job} {flags : List Bool} → totals ≡ totalsLast h t (s .sums) → p ≡ lastPlan h → job ≡ jobOf h t s p false → flags ≡ turned h t s p (s .flags)
+      → Returns (settled h t s (prepared h t lits (s .kept) (s .kept) (record { state = s; totals = totals; job = job; phase = idle; flags = flags; kept = s .kept })) out) r new → Returns (settled h t s (lastWork h t lits s) out) r new
   unfolding lastWork
-  last-so e1 e2 j x = rw (e1, j, e2) at x
+  last-so e1 e2 j f x = rw (e1, j, f, e2) at x

@@ -9,6 +9,7 @@ use Rattle.printed.specs.Printed.{noPrefix}
 use Rattle.plan.specs.declared.Plan.{Plan}
 use Rattle.layout.specs.declared.Pos.{Pos}
 use Rattle.layout.specs.Layout.{Laid, layout}
+use Rattle.measure.specs.Measure.{measured}
 use Rattle.due_text.specs.Bytes.{Reading, reading}
 use Rattle.pages.specs.declared.Job.{Job}
 use Rattle.pages.specs.Outcome.{outcome, written}
@@ -17,9 +18,13 @@ use Rattle.state.specs.declared.State.{State}
 use Rattle.answer.specs.Result.{Result, refuse, placeOf, at, answered}
 use Rattle.work.specs.declared.Prepared.{Prepared}
 
--- what is printed of a plan from the state's place on: nothing stands in front of the records
-abbrev pub jobOf : State → Plan → Bool → Job
-jobOf s p flag = record { plan = p; pos = placeOf s; flag = flag; prefix = noPrefix }
+-- a plan's groups, from the state's place on
+abbrev pub laidOf : Head → List ℕ → State → Plan → Laid
+laidOf h t s p = layout h t p (placeOf s)
+
+-- what is printed of them: nothing stands in front of the records
+abbrev pub jobOf : Head → List ℕ → State → Plan → Bool → Job
+jobOf h t s p flag = record { plan = p; pos = placeOf s; measured = measured h t (laidOf h t s p); flag = flag; prefix = noPrefix }
 
 -- what a call has worked out before it prints: whether every addition stayed in range, the layout, what the items read, and the parts of the next
 -- state that the layout does not give

@@ -1,16 +1,20 @@
 // The work of a row and of the last footings, on the tables of an accepted description.
 ghost use mathlib.Core.Path.{_≡_};
 ghost use lib.ListN.{length};
+ghost use Rattle.printed.specs.Printed.{noPrefix};
 ghost use Rattle.layout.specs.Facts.{Called};
+ghost use Rattle.measure.specs.Measure.{Measures};
 ghost use Rattle.due_text.specs.Bytes.{reading};
 ghost use Rattle.due_text.specs.Facts.{Printable};
 ghost use Rattle.state.specs.State.{started, running, sumCount};
 ghost use Rattle.refusals.specs.Facts.{RowIn};
 ghost use Rattle.answer.specs.Result.{Returns};
-ghost use Rattle.work.specs.Work.{jobOf, prepared, settled};
+ghost use Rattle.work.specs.Work.{prepared, settled};
 ghost use Rattle.work.specs.Rows.{firstWork, laterWork, lastWork};
 ghost use Rattle.work.specs.Facts.{Stands};
 use answer::Answer;
+use layout::Pos;
+use measure::Measured;
 use pages::Job;
 use plan::Plan;
 use state::State;
@@ -39,7 +43,7 @@ fn run<'a>(
     w: Prepared,
     out: &mut [u8],
 ) -> Answer
-    requires { ⌜ Called h (now t) (w .job .plan) (w .job .pos) × (Printable h (now t) (reading (now lits) (now kept) (now row) (w .totals .shown) (w .job .flag) (w .job .prefix)) × (length (w .totals .shown) ≡ sumCount)) ⌝ }
+    requires { ⌜ Called h (now t) (w .job .plan) (w .job .pos) × (Measures h (now t) (w .job .plan) (w .job .pos) (w .job .measured) × (Printable h (now t) (reading (now lits) (now kept) (now row) (w .totals .shown) (w .job .flag) (w .job .prefix)) × (length (w .totals .shown) ≡ sumCount))) ⌝ }
     ensures { λ r. ⌜ Returns (settled h (now (t .entry)) (w .state) (prepared h (now (t .entry)) (now (lits .entry)) (now (kept .entry)) (now (row .entry)) w) (now (out .entry))) r (now (out .exit)) ⌝ }
 {
     let s = w.state;
@@ -57,15 +61,15 @@ fn run<'a>(
     answer::conclude(s, w.phase, sums, flags, next, outcome)
 }
 
-// What is printed of a plan from the place of a state on.
-fn job_of(s: State, plan: Plan, flag: bool) -> Job
-    ensures { λ r. ⌜ r ≡ jobOf s plan flag ⌝ }
+// What is printed of a plan, from a place on and measured.
+fn job_of(plan: Plan, pos: Pos, measured: Measured, flag: bool) -> Job
+    ensures { λ r. ⌜ r ≡ record { plan = plan; pos = pos; measured = measured; flag = flag; prefix = noPrefix } ⌝ }
 {
     let prefix = printed::no_prefix();
-    let pos = answer::place_of(s);
     Job {
         plan,
         pos,
+        measured,
         flag,
         prefix,
     }
@@ -96,7 +100,10 @@ pub fn first_row(
         group,
         state::flags_set(lookup::details_of(t, h)),
     );
-    let job = job_of(s, plan::first_plan(h, group), true);
+    let plan = plan::first_plan(h, group);
+    let pos = answer::place_of(s);
+    let measured = measure::measure(t, h, plan, pos);
+    let job = job_of(plan, pos, measured, true);
     let w = Prepared {
         state: s,
         totals,
@@ -129,14 +136,19 @@ pub fn later_row(
     if !ok {
         return answer::refusal(s, Verdict::Sum);
     }
+    let plan = plan::later_plan(h, b, group);
+    let pos = answer::place_of(s);
+    let measured = measure::measure(t, h, plan, pos);
+    let to = measured.to;
     let before = s.flags;
-    let set = state::flags_at(t, h, b, before);
-    let flag = set[detail];
-    let job = job_of(s, plan::later_plan(h, b, group), flag);
+    let broken = state::flags_at(t, h, b, before);
+    let turned = state::flags_turned(t, h, pos.page, to.page, broken);
+    let flag = turned[detail];
+    let job = job_of(plan, pos, measured, flag);
     let outcome = pages::call(t, h, lits, &s.kept, rec, &totals.shown, job, out);
     let sums = totals.sums;
     let kept = s.kept;
-    let flags = state::cleared(t, h, detail, group, set);
+    let flags = state::cleared(t, h, detail, group, turned);
     let next = state::kept_at(h, b, rec, kept);
     answer::conclude(s, State::RUNNING, sums, flags, next, outcome)
 }
@@ -149,9 +161,14 @@ pub fn last_groups(t: &[u16], h: Head, lits: &[u8], s: State, out: &mut [u8]) ->
     let old = s.sums;
     let kept = s.kept;
     let next = s.kept;
-    let flags = s.flags;
+    let before = s.flags;
     let totals = amounts::totals_last(t, h, old);
-    let job = job_of(s, plan::last_plan(h), false);
+    let plan = plan::last_plan(h);
+    let pos = answer::place_of(s);
+    let measured = measure::measure(t, h, plan, pos);
+    let to = measured.to;
+    let flags = state::flags_turned(t, h, pos.page, to.page, before);
+    let job = job_of(plan, pos, measured, false);
     let w = Prepared {
         state: s,
         totals,

@@ -103,6 +103,11 @@ impl Block {
         Block { kind, level, ..Block::default() }
     }
 
+    /// Whether it has an indicated item.
+    pub fn indicates(&self) -> bool {
+        self.lines.iter().flat_map(|line| &line.items).any(|item| item.indicate == 1)
+    }
+
     /// CH, DE or CF.
     pub fn is_body(&self) -> bool {
         matches!(self.kind, CH | DE | CF)

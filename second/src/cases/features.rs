@@ -3,7 +3,7 @@
 use super::draft::{Block, Draft, Section, LIMITS, SECTIONS};
 use super::sequence::{Call, Step, MANNERS};
 use super::states::DAMAGES;
-use super::{broken, rows, sample, walk};
+use super::{broken, keep, play, rows, sample, walk};
 use crate::description::{
     ADD_COUNTER, ADD_FIELD, CF, CH, DE, FIELD, FINAL, LINE_ABSOLUTE, LINE_NEXT_PAGE, LINE_RELATIVE, NUMBER,
     PF, PH, RF, RH, SUM, TEXT,
@@ -20,7 +20,7 @@ const SECTION_NAMES: [&str; 8] =
     ["fields", "controls", "groups", "lines", "items", "counters", "addends", "literals"];
 
 /// Features that stand alone.
-const SINGLE: [&str; 45] = [
+const SINGLE: [&str; 55] = [
     "text of 64",
     "number of 18",
     "FINAL",
@@ -66,6 +66,16 @@ const SINGLE: [&str; 45] = [
     "no body group with lines due",
     "TERMINATE when started",
     "TERMINATE with RF on its own page",
+    "indicated item shown by a page change alone",
+    "indicated item shown by two page changes alone",
+    "indicated item shown without a break or a page change",
+    "indicated item not shown",
+    "other detail's flag set by a page change alone",
+    "detail without lines after a page change",
+    "TERMINATE sets a flag by a footing's page change alone",
+    "TERMINATE sets a flag by RF's own page alone",
+    "TERMINATE sets a flag by both",
+    "TERMINATE leaves a flag clear",
 ];
 
 /// Names of all that should be met.
@@ -81,6 +91,7 @@ pub fn wanted() -> Vec<String> {
     names.extend((1..=8).map(|details| format!("details: {details}")));
     names.extend((0..=8).map(|controls| format!("controls: {controls}")));
     names.extend((0..7).flat_map(wanted_of));
+    names.extend([CF, CH, DE].map(turned_name));
     names
 }
 
@@ -126,6 +137,10 @@ fn next_name(kind: u16, next: u16) -> String {
 
 fn landing_name(kind: u16, first: u16, landing: &str) -> String {
     format!("{} {} lands: {landing}", type_name(kind), FIRST_LINES[first as usize])
+}
+
+fn turned_name(kind: u16) -> String {
+    format!("indicated item after a page change by {}", type_name(kind))
 }
 
 /// The names whose condition holds.
@@ -289,7 +304,64 @@ pub fn of_call(draft: &Draft, step: &Step, answer: &Answer) -> Vec<String> {
         (saved != 0 && saved != step.state.saved, "saved line set"),
     ]));
     names.extend(landing(draft, step, answer));
+    names.extend(match walk::detail(draft, step) {
+        Some(detail) => indicate_features(draft, step, answer, detail),
+        None => end_features(draft, step, answer),
+    });
     names
+}
+
+/// What a row's detail shows of its indicated items, and why.
+fn indicate_features(draft: &Draft, step: &Step, answer: &Answer, detail: &Block) -> Vec<String> {
+    let Call::Generate { d, .. } = step.call else { return Vec::new() };
+    let (before, page) = (step.state.flags, answer.state.page);
+    let turns = page.saturating_sub(step.state.page);
+    let shows = detail.indicates() && walk::flags(draft, step, page)[d as usize] == 1;
+    let stays = !walk::begins(draft, step);
+    let was_clear = before[d as usize] == 0;
+    let mut others = draft.groups_of(DE).into_iter().zip(before).enumerate();
+    let other_clear =
+        others.any(|(other, (g, flag))| other != d as usize && flag == 0 && draft.groups[g].indicates());
+    let mut names = holding(&[
+        (shows && stays && was_clear && turns == 1, "indicated item shown by a page change alone"),
+        (shows && stays && was_clear && turns == 2, "indicated item shown by two page changes alone"),
+        (shows && stays && turns == 0, "indicated item shown without a break or a page change"),
+        (detail.indicates() && !shows, "indicated item not shown"),
+        (stays && turns > 0 && other_clear, "other detail's flag set by a page change alone"),
+        (turns > 0 && detail.lines.is_empty(), "detail without lines after a page change"),
+    ]);
+    if shows {
+        let turned = turned(draft, step, answer);
+        names.extend([CF, CH, DE].into_iter().filter(|kind| turned.contains(kind)).map(turned_name));
+    }
+    names
+}
+
+/// What TERMINATE leaves of the flags, where the description has a use for them.
+fn end_features(draft: &Draft, step: &Step, answer: &Answer) -> Vec<String> {
+    let clear = step.state.flags[..draft.details()].contains(&0);
+    if step.state.phase == STARTED || !clear || !draft.groups.iter().any(Block::indicates) {
+        return Vec::new();
+    }
+    let turned = turned(draft, step, answer);
+    let any = |kind: u16| turned.contains(&kind);
+    holding(&[
+        (any(CF) && !any(RF), "TERMINATE sets a flag by a footing's page change alone"),
+        (any(RF) && !any(CF), "TERMINATE sets a flag by RF's own page alone"),
+        (any(RF) && any(CF), "TERMINATE sets a flag by both"),
+        (turned.is_empty(), "TERMINATE leaves a flag clear"),
+    ])
+}
+
+/// The types of the groups that an accepted call changed the page for, found from the lines it prints.
+fn turned(draft: &Draft, step: &Step, answer: &Answer) -> Vec<u16> {
+    if answer.state.page == step.state.page {
+        return Vec::new();
+    }
+    let (own, output) = play(&draft.bytes(), step);
+    let walked =
+        keep::places(draft, &output[..own.count]).and_then(|places| walk::walk(draft, step, &places));
+    walked.map_or(Vec::new(), |walked| walked.turned)
 }
 
 /// Features of a later row.

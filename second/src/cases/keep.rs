@@ -2,7 +2,8 @@
 
 use super::draft::Draft;
 use super::sequence::{line_bytes, most_lines, pattern, Call, Expect, Step};
-use super::walk::{walk, Place};
+use super::walk::{self, walk, Place};
+use crate::description::{Item, FIELD, LITERAL, NUMBER};
 use crate::report::Answer;
 use crate::state::{State, IDLE, RUNNING, STARTED};
 
@@ -58,7 +59,9 @@ fn accepted(draft: &Draft, step: &Step, answer: &Answer, output: &[u8]) -> Resul
         Call::Generate { record, .. } => generated(step, record, answer)?,
         Call::Terminate => terminated(step, answer)?,
     }
-    printed(draft, step, answer, &output[..answer.count])
+    flags(draft, step, answer)?;
+    printed(draft, step, answer, &output[..answer.count])?;
+    indicated(draft, step, answer, &output[..answer.count])
 }
 
 fn initiated(answer: &Answer) -> Result<(), String> {
@@ -78,7 +81,6 @@ fn generated(step: &Step, record: &[u8], answer: &Answer) -> Result<(), String> 
 fn terminated(step: &Step, answer: &Answer) -> Result<(), String> {
     must(answer.state.phase == IDLE, "TERMINATE does not give idle")?;
     must(answer.state.kept == step.state.kept, "TERMINATE keeps another record")?;
-    must(answer.state.flags == step.state.flags, "TERMINATE changes a flag")?;
     if step.state.phase == STARTED {
         must(answer.count == 0, "TERMINATE prints without a row")?;
         must(answer.state == State::fresh(), "TERMINATE without a row does not give a fresh state")?;
@@ -86,18 +88,29 @@ fn terminated(step: &Step, answer: &Answer) -> Result<(), String> {
     Ok(())
 }
 
+/// Flags are set as they must be; a detail that has lines clears its own.
+fn flags(draft: &Draft, step: &Step, answer: &Answer) -> Result<(), String> {
+    let mut flags = match step.call {
+        Call::Initiate => [0; 8],
+        _ => walk::flags(draft, step, answer.state.page),
+    };
+    if let Call::Generate { d, .. } = step.call {
+        flags[d as usize] &= u8::from(walk::detail(draft, step).is_some_and(|group| group.lines.is_empty()));
+    }
+    must(answer.state.flags == flags, &format!("flags {:?}, due {flags:?}", answer.state.flags))
+}
+
 /// Lines are well made; page and line rise from the state before to the state after; the groups due
 /// are there.
 fn printed(draft: &Draft, step: &Step, answer: &Answer, output: &[u8]) -> Result<(), String> {
-    let places: Vec<Place> =
-        output.chunks_exact(line_bytes(draft)).map(|line| place(draft, line)).collect::<Result<_, _>>()?;
+    let places = places(draft, output)?;
     let mut last = (step.state.page, step.state.line);
     for &place in &places {
         must(place > last, "page and line do not rise")?;
         last = place;
     }
     if !matches!(step.call, Call::Initiate) {
-        let page = walk(draft, step, &places)?;
+        let page = walk(draft, step, &places)?.page;
         must(answer.state.page == page, "the state's page is not the last one printed")?;
         must(
             answer.state.line >= last.1 || page > last.0,
@@ -105,6 +118,37 @@ fn printed(draft: &Draft, step: &Step, answer: &Answer, output: &[u8]) -> Result
         )?;
     }
     Ok(())
+}
+
+/// Indicated items are blank where the flag is clear; where it is set, those that show a number are not. The detail's
+/// lines are the last.
+fn indicated(draft: &Draft, step: &Step, answer: &Answer, output: &[u8]) -> Result<(), String> {
+    let (Call::Generate { d, .. }, Some(detail)) = (&step.call, walk::detail(draft, step)) else {
+        return Ok(());
+    };
+    let shows = walk::flags(draft, step, answer.state.page)[*d as usize] == 1;
+    let others = output.len() / line_bytes(draft) - detail.lines.len();
+    for (row, line) in detail.lines.iter().zip(output.chunks_exact(line_bytes(draft)).skip(others)) {
+        for item in row.items.iter().filter(|item| item.indicate == 1) {
+            let part = &line[8 + item.column as usize..][..item.width as usize];
+            let blank = part.iter().all(|&byte| byte == b' ');
+            must(shows || blank, "an indicated item shows, its flag clear")?;
+            must(!shows || !blank || !shows_number(draft, item), "an indicated item is blank, its flag set")?;
+        }
+    }
+    Ok(())
+}
+
+fn shows_number(draft: &Draft, item: &Item) -> bool {
+    match item.source {
+        FIELD => draft.fields[item.index as usize].kind == NUMBER,
+        _ => item.source != LITERAL,
+    }
+}
+
+/// Page and line of each printed line.
+pub fn places(draft: &Draft, output: &[u8]) -> Result<Vec<Place>, String> {
+    output.chunks_exact(line_bytes(draft)).map(|line| place(draft, line)).collect()
 }
 
 /// Page and line of a printed line that is well made.

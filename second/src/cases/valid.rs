@@ -18,6 +18,20 @@ pub fn rich(rng: &mut Rng) -> Draft {
     build(rng, true)
 }
 
+/// One whose pages end often, for the indicate flags: a short page, several details that indicate, a footing and a
+/// heading with lines, RF on a page of its own or not.
+pub fn turning(rng: &mut Rng) -> Draft {
+    loop {
+        let draft = draft(rng);
+        let has_lines = |kind: u16| draft.groups_of(kind).iter().any(|&g| !draft.groups[g].lines.is_empty());
+        let indicating = draft.groups.iter().filter(|group| group.indicates()).count();
+        let is_short = draft.page.ft - draft.page.fd <= 8;
+        if is_short && indicating > 1 && [CF, CH, RF].into_iter().all(has_lines) {
+            return draft;
+        }
+    }
+}
+
 /// A rich description with exactly `count` entries in one section. It keeps the rules but for the
 /// section's limit, where `count` passes it.
 pub fn filled(rng: &mut Rng, section: Section, count: usize) -> Draft {

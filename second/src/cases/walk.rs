@@ -12,44 +12,84 @@ pub type Place = (u32, u16);
 /// The body groups with lines that a call prints, in their order.
 pub fn due<'a>(draft: &'a Draft, step: &Step) -> Vec<&'a Block> {
     let levels = draft.controls.len();
-    let (footings, headings, detail) = match &step.call {
-        Call::Generate { d, .. } if step.state.phase == STARTED => (levels, 0, Some(*d)),
-        Call::Generate { d, record } => {
+    let (footings, headings) = match &step.call {
+        Call::Generate { .. } if step.state.phase == STARTED => (levels, 0),
+        Call::Generate { record, .. } => {
             let kept = &step.state.kept[..record.len()];
             let b = rows::break_level(draft, kept, record).unwrap_or(levels);
-            (b, b, Some(*d))
+            (b, b)
         }
-        Call::Terminate if step.state.phase == RUNNING => (0, levels, None),
-        _ => (levels, levels, None),
+        Call::Terminate if step.state.phase == RUNNING => (0, levels),
+        _ => (levels, levels),
     };
     let mut due: Vec<&Block> =
         (footings..levels).rev().filter_map(|level| draft.group_at(CF, level)).collect();
     due.extend((headings..levels).filter_map(|level| draft.group_at(CH, level)));
-    due.extend(detail.map(|d| &draft.groups[draft.groups_of(DE)[d as usize]]));
+    due.extend(detail(draft, step));
     due.retain(|group| !group.lines.is_empty());
     due
 }
 
-/// Follows an accepted call's lines and gives the page they end on.
-pub fn walk(draft: &Draft, step: &Step, places: &[Place]) -> Result<u32, String> {
-    let mut walk = Walk { draft, page: step.state.page, places };
+/// Where an accepted call's lines lead.
+#[derive(Clone, Debug)]
+pub struct Walked {
+    /// The page they end on.
+    pub page: u32,
+    /// The type of the group that each page change was for; RF has the one to its own page.
+    pub turned: Vec<u16>,
+}
+
+/// Follows an accepted call's lines.
+pub fn walk(draft: &Draft, step: &Step, places: &[Place]) -> Result<Walked, String> {
+    let mut walk = Walk { draft, page: step.state.page, places, turned: Vec::new() };
     let generate = matches!(step.call, Call::Generate { .. });
     if generate && step.state.phase == STARTED {
         walk.fixed(RH, draft.base(RH))?;
         walk.fixed(PH, draft.base(PH))?;
     }
     for group in due(draft, step) {
-        walk.turn_pages()?;
+        walk.turn_pages(group.kind)?;
         walk.body(group)?;
     }
     if step.call == Call::Terminate && step.state.phase == RUNNING {
         walk.fixed(PF, draft.page.ft)?;
-        walk.page += u32::from(own_page(draft));
+        if own_page(draft) {
+            walk.next_page(RF);
+        }
         walk.fixed(RF, draft.base(RF))?;
     }
     match walk.places {
-        [] => Ok(walk.page),
+        [] => Ok(Walked { page: walk.page, turned: walk.turned }),
         _ => Err(format!("{} lines more than the groups due have", walk.places.len())),
+    }
+}
+
+/// The detail that a call names.
+pub fn detail<'a>(draft: &'a Draft, step: &Step) -> Option<&'a Block> {
+    match step.call {
+        Call::Generate { d, .. } => Some(&draft.groups[draft.groups_of(DE)[d as usize]]),
+        _ => None,
+    }
+}
+
+/// An accepted call's flags when its detail prints, or at its end: set by the first row, by a break and by a
+/// page change to `page`.
+pub fn flags(draft: &Draft, step: &Step, page: u32) -> [u8; 8] {
+    let mut flags = step.state.flags;
+    if begins(draft, step) || page > step.state.page {
+        flags[..draft.details()].fill(1);
+    }
+    flags
+}
+
+/// The call is a report's first row or one with a break.
+pub fn begins(draft: &Draft, step: &Step) -> bool {
+    match &step.call {
+        Call::Generate { record, .. } => {
+            let kept = &step.state.kept[..record.len()];
+            step.state.phase == STARTED || rows::break_level(draft, kept, record).is_some()
+        }
+        _ => false,
     }
 }
 
@@ -63,6 +103,7 @@ struct Walk<'a> {
     draft: &'a Draft,
     page: u32,
     places: &'a [Place],
+    turned: Vec<u16>,
 }
 
 impl Walk<'_> {
@@ -90,8 +131,13 @@ impl Walk<'_> {
         }
     }
 
-    /// Takes the page changes before a body group, two at most.
-    fn turn_pages(&mut self) -> Result<(), String> {
+    fn next_page(&mut self, kind: u16) {
+        self.page += 1;
+        self.turned.push(kind);
+    }
+
+    /// Takes the page changes before a body group of this type, two at most.
+    fn turn_pages(&mut self, kind: u16) -> Result<(), String> {
         let (ft, above) = (self.draft.page.ft, self.draft.page.h - 1);
         for _ in 0..2 {
             let turned = |place: &Place| place.0 > self.page || place.1 > ft;
@@ -99,7 +145,7 @@ impl Walk<'_> {
                 break;
             }
             self.fixed(PF, ft)?;
-            self.page += 1;
+            self.next_page(kind);
             self.fixed(PH, above)?;
         }
         Ok(())

@@ -1,8 +1,12 @@
 -- `work::first_row` meets its contract.
 -- Assumes nothing.
+use mathlib.Core.Path.{sym, ap, _∙_}
+use mathlib.Core.Bool.{true}
+use lib.ListN.{length}
 use borrow.Author.Needs.{needs}
-use Rattle.work.proofs.Ready.{row-short, clearable, first-adding, first-prints}
-use Rattle.work.proofs.Works.{first-so}
+use Rattle.state.proofs.Kept.{length-padded}
+use Rattle.work.proofs.Ready.{row-short, clearable, first-adding, first-called, first-printable}
+use Rattle.work.proofs.Works.{job-is, first-so}
 use Rattle.work.proofs.first_row.Statement.{statement}
 use Rattle.work.proofs.first_row.Tie as tie
 
@@ -13,23 +17,46 @@ found w = w .before .before
 abbrev start : tie.After-totals-first → tie.Start
 start w = found w .before .before .before .before .before
 
+-- the flags and the totals, from where the place is known
+abbrev flags : tie.After-place-of → tie.After-cleared
+flags p = p .before .before
+
+abbrev totals : tie.After-place-of → tie.After-totals-first
+totals p = p .before .before .before .before .before .before
+
 cleared-requires : tie.Need-cleared-requires
 cleared-requires c κs =
     let w = c .before .before .before in
     clearable (start w .pre) (found w .find-detail .ensures)
 
+measure-requires : tie.Need-measure-requires
+measure-requires c κs =
+    let w = totals c in
+    first-called (start w .pre) (c .before .first-plan .ensures) (c .place-of .ensures) (found w .find-detail .ensures .1)
+
+kept-long : tie.Need-slice-aggregate-run
+kept-long c =
+    let p = c .before .before .before in
+    sym (ap length (flags p .before .before .before .padded .ensures) ∙ length-padded _ (row-short (start (totals p) .pre)))
+
 run-requires : tie.Need-run-requires
 run-requires c κs =
     let j = c .before .before in
-    let w = j .before .before .before .before .before .before in
-    rw (j .job-of .ensures, j .before .first-plan .ensures, w .totals-first .ensures, c .before .before .before .before .before .before .before .padded .ensures) (first-prints (start w .pre) (found w .find-detail .ensures .1))
+    let p = j .before .before in
+    let w = totals p in
+    rw (j .job-of .ensures) (
+      first-called (start w .pre) (p .before .first-plan .ensures) (p .place-of .ensures) (found w .find-detail .ensures .1),
+      (j .before .measure .ensures, first-printable (start w .pre) (w .totals-first .ensures) (flags p .before .before .before .padded .ensures)),
+    )
 
 returns : tie.Need-returns
 returns c =
     let j = c .before .before .before .before .before in
-    let f = j .before .before in
-    let w = j .before .before .before .before .before .before in
-    first-so _ _ _ _ _ _ _ (w .totals-first .ensures) (found w .find-detail .ensures .0) (j .before .first-plan .ensures) (j .job-of .ensures) (c .before .before .before .before .before .before .before .before .before .before .padded .ensures) (f .before .before .details-of .ensures .is) (f .before .flags-set .ensures) (f .cleared .ensures) (c .before .before .run .ensures)
+    let p = j .before .before in
+    let f = flags p in
+    let w = totals p in
+    let a = start w .args in
+    first-so _ _ _ _ _ _ _ (w .totals-first .ensures) (found w .find-detail .ensures .0) (p .before .first-plan .ensures) (job-is (a .h) (a .t .now) (a .s) _ (p .place-of .ensures) (j .before .measure .ensures) true (j .job-of .ensures)) (f .before .before .before .padded .ensures) (f .before .before .details-of .ensures .is) (f .before .flags-set .ensures) (f .cleared .ensures) (c .before .before .run .ensures)
 
 pub first-row-spec : {M : Type 1} → statement M
 first-row-spec =
@@ -43,7 +70,9 @@ first-row-spec =
     cleared-requires
     (λ c κs. search needs)
     (λ c κs. search needs)
-    (λ c. search needs)
+    measure-requires
+    (λ c κs. search needs)
+    kept-long
     run-requires
     (λ c. search needs)
     returns)

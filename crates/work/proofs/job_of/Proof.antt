@@ -5,4 +5,4 @@ use Rattle.work.proofs.job_of.Statement.{statement}
 use Rattle.work.proofs.job_of.Tie as tie
 
 pub job-of-spec : {M : Type 1} → statement M
-job-of-spec = tie.close (tie.spec (λ c κs. search needs) (λ c κs. search needs) (λ c. rw (c .place-of .ensures, c .before .no-prefix .ensures)))
+job-of-spec = tie.close (tie.spec (λ c κs. search needs) (λ c. rw (c .no-prefix .ensures)))

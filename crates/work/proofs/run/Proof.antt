@@ -18,7 +18,7 @@ run-spec =
     (λ c κs. search needs)
     (λ c. sums-refused _ _ _ _ _ (not-true _ (c .before .if1 .taken)) (c .refusal .ensures))
     (λ c. search needs)
-    (λ c κs. let p = c .before .before .before .before .before .before .before .before .before .before .before .before .pre in (p .0, p .1 .0))
+    (λ c κs. let p = c .before .before .before .before .before .before .before .before .before .before .before .before .pre in (p .0, (p .1 .0, p .1 .1 .0)))
     (λ c κs. search needs)
     (λ c. search needs)
     returns-2)
