@@ -63,7 +63,8 @@ sourceText t inp v x =
     (cond (eqb (x .kind) sourceLine) (counterText (v .line) x)
     (sumText (inp .sums) x))))
 
--- "An item flagged indicate prints only the first time its detail prints after a control break; else blanks."
+-- "An item flagged indicate prints only the first time its detail prints after a control break; else blanks." Document 02, R-2: "also the first time its
+-- detail prints after a page change". The view's flag says whether this is such a time
 abbrev pub hidden : View → Item → Bool
 hidden v x = eqb (x .flag) 1 && not (v .flag)
 

@@ -21,31 +21,39 @@ use Rattle.state.specs.declared.State.{State}
 use Rattle.state.specs.State.{idle, running}
 use Rattle.state.specs.Kept.{paddedRow, flagsSet, cleared, flagsAt, flagsTurned, keptAt}
 use Rattle.answer.specs.declared.Answer.{Answer}
-use Rattle.answer.specs.Result.{placeOf, Returns}
-use Rattle.work.specs.Work.{jobOf, prepared, settled}
-use Rattle.work.specs.Rows.{turned, firstWork, laterWork, lastWork}
+use Rattle.answer.specs.Result.{placeOf, refusal, Returns}
+use Rattle.verdict.specs.declared.Verdict.the-variants.{Sum}
+use Rattle.work.specs.Work.{settled}
+use Rattle.work.specs.Facts.{prepared}
+use Rattle.work.specs.Rows.{flagsAfter, firstWork, laterWork, lastWork}
+use Rattle.work.proofs.Settled.{sums-refused}
 
--- a plan measured from the state's place: its job, and the flags after its page changes
-module _ (h : Head) (t : List ℕ) (s : State) (p : Plan) {pos : Pos} {m : Measured} (e : pos ≡ placeOf s) (x : Measures h t p pos m) where
-  pub job-is : {job : Job} (flag : Bool) → job ≡ record { plan = p; pos = pos; measured = m; flag = flag; prefix = noPrefix } → job ≡ jobOf h t s p flag
-  job-is flag j = rw (j, x .is, e) refl
+-- the flags after the page changes of a plan that is measured from the state's place
+pub flags-are : (h : Head) (t : List ℕ) (s : State) (p : Plan) {pos : Pos} {m : Measured} {set : List Bool} (flags : List Bool) → pos ≡ placeOf s → Measures h t p pos m → set ≡ flagsTurned h t (pos .page) (m .to .page) flags → set ≡ flagsAfter h t s p flags
+flags-are h t s p flags e x q = rw (q, x .is, e) refl
 
-  pub turned-is : {set : List Bool} (flags : List Bool) → set ≡ flagsTurned h t (pos .page) (m .to .page) flags → set ≡ turned h t s p flags
-  turned-is flags q = rw (q, x .is, e) refl
+-- what a call prints of a plan, measured
+abbrev pub jobOf : Plan → Pos → Measured → Bool → Job
+jobOf p pos m flag = record { plan = p; pos = pos; measured = m; flag = flag; prefix = noPrefix }
+
+-- a later row, refused for its sums before it is measured
+pub later-refused : (h : Head) (t lits : List ℕ) (s : State) (out : List ℕ) (detail : ℕ) (row : List ℕ) {r : Answer} {b : ℕ} {totals : Totals} → b ≡ breakLevel h t (s .kept) row → totals ≡ totalsLater h t row detail b (s .sums) → totals .ok ≡ false → r ≡ refusal s Sum → Returns (settled h t s (laterWork h t lits s detail row) out) r out
+unfolding laterWork
+later-refused h t lits s out detail row e1 e2 k q = sums-refused h t s (laterWork h t lits s detail row) out (rw (e2, e1) at k) q
 
 module _ (h : Head) (t lits : List ℕ) (s : State) (out : List ℕ) {r : Answer} {new : List ℕ} where
   module _ (detail : ℕ) (row : List ℕ) where
-    pub first-so : {totals : Totals} {g n : ℕ} {p : Plan} {job : Job} {kept : List ℕ} {set flags : List Bool} → totals ≡ totalsFirst h t row detail (s .sums) → g ≡ theDetail h t detail → p ≡ firstPlan h g → job ≡ jobOf h t s p true → kept ≡ paddedRow row → n ≡ details h t → set ≡ flagsSet n → flags ≡ cleared h t detail set
+    pub first-so : {totals : Totals} {g n : ℕ} {p : Plan} {pos : Pos} {m : Measured} {job : Job} {kept : List ℕ} {set flags : List Bool} → totals ≡ totalsFirst h t row detail (s .sums) → g ≡ theDetail h t detail → p ≡ firstPlan h g → pos ≡ placeOf s → job ≡ jobOf p pos m true → kept ≡ paddedRow row → n ≡ details h t → set ≡ flagsSet n → flags ≡ cleared h t detail set
         → Returns (settled h t s (prepared h t lits kept row (record { state = s; totals = totals; job = job; phase = running; flags = flags; kept = kept })) out) r new → Returns (settled h t s (firstWork h t lits s detail row) out) r new
     unfolding firstWork
-    first-so e1 e2 e3 j e4 e5 e6 e7 x = rw (e1, j, e3, e2, e4, e7, e6, e5) at x
+    first-so e1 e2 e3 e4 j e5 e6 e7 e8 x = rw (e1, j, e4, e3, e2, e5, e8, e7, e6) at x
 
-    pub later-so : {b g : ℕ} {totals : Totals} {p : Plan} {job : Job} {broken set flags : List Bool} {next : List ℕ} → b ≡ breakLevel h t (s .kept) row → totals ≡ totalsLater h t row detail b (s .sums) → g ≡ theDetail h t detail → p ≡ laterPlan h b g → broken ≡ flagsAt h t b (s .flags) → set ≡ turned h t s p broken → job ≡ jobOf h t s p (getD set detail false) → flags ≡ cleared h t detail set → next ≡ keptAt h b row (s .kept)
+    pub later-so : {b g : ℕ} {totals : Totals} {p : Plan} {pos : Pos} {m : Measured} {job : Job} {broken set flags : List Bool} {next : List ℕ} → b ≡ breakLevel h t (s .kept) row → totals ≡ totalsLater h t row detail b (s .sums) → g ≡ theDetail h t detail → p ≡ laterPlan h b g → pos ≡ placeOf s → broken ≡ flagsAt h t b (s .flags) → set ≡ flagsAfter h t s p broken → job ≡ jobOf p pos m (getD set detail false) → flags ≡ cleared h t detail set → next ≡ keptAt h b row (s .kept)
         → Returns (settled h t s (prepared h t lits (s .kept) row (record { state = s; totals = totals; job = job; phase = running; flags = flags; kept = next })) out) r new → Returns (settled h t s (laterWork h t lits s detail row) out) r new
     unfolding laterWork
-    later-so e1 e2 e3 e4 e5 e6 j e7 e8 x = rw (e2, j, e7, e6, e5, e4, e3, e8, e1) at x
+    later-so e1 e2 e3 e4 e5 e6 e7 j e8 e9 x = rw (e2, j, e5, e8, e7, e6, e4, e3, e9, e1) at x
 
-  pub last-so : {totals : Totals} {p : Plan} {job : Job} {flags : List Bool} → totals ≡ totalsLast h t (s .sums) → p ≡ lastPlan h → job ≡ jobOf h t s p false → flags ≡ turned h t s p (s .flags)
+  pub last-so : {totals : Totals} {p : Plan} {pos : Pos} {m : Measured} {job : Job} {flags : List Bool} → totals ≡ totalsLast h t (s .sums) → p ≡ lastPlan h → pos ≡ placeOf s → job ≡ jobOf p pos m false → flags ≡ flagsAfter h t s p (s .flags)
       → Returns (settled h t s (prepared h t lits (s .kept) (s .kept) (record { state = s; totals = totals; job = job; phase = idle; flags = flags; kept = s .kept })) out) r new → Returns (settled h t s (lastWork h t lits s) out) r new
   unfolding lastWork
-  last-so e1 e2 j f x = rw (e1, j, f, e2) at x
+  last-so e1 e2 e3 j f x = rw (e1, j, e3, f, e2) at x

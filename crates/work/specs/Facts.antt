@@ -1,4 +1,4 @@
--- What the work of a call may take for granted: the description is accepted, and the state keeps its rules.
+-- What the work of a call may take for granted: the description is accepted, and the state keeps its rules. And the work as the code holds it.
 use mathlib.Core.Path.{_≡_}
 use mathlib.Core.Bool.{true}
 use mathlib.Core.List.{List}
@@ -8,8 +8,24 @@ use Rattle.accepted.specs.Accepted.{Accepted}
 use Rattle.state.specs.declared.State.{State}
 use Rattle.state_rules.specs.Rules.{stateOk}
 use Rattle.state.specs.State.{Sized}
+use Rattle.layout.specs.Layout.{layout}
+use Rattle.due_text.specs.Bytes.{reading}
+use Rattle.work.specs.declared.Prepared.{Prepared}
+use Rattle.work.specs.Work.{Work}
 
 pub record Stands (h : Head) (t lits : List ℕ) (s : State) : Type 0 where
   pub accepted : Accepted h t lits
   pub rules : stateOk h t s ≡ true
   pub sized : Sized s
+
+-- the work from the parts that the code holds
+abbrev pub prepared : Head → List ℕ → List ℕ → List ℕ → List ℕ → Prepared → Work
+prepared h t lits kept row w = record {
+  ok = w .totals .ok;
+  laid = layout h t (w .job .plan) (w .job .pos);
+  inputs = reading lits kept row (w .totals .shown) (w .job .flag) (w .job .prefix);
+  phase = w .phase;
+  sums = w .totals .sums;
+  flags = w .flags;
+  kept = w .kept;
+}

@@ -5,26 +5,18 @@ use mathlib.Core.List.{List}
 use lib.IntN.{ℤ}
 use lib.ListN.{length}
 use Rattle.tables.specs.declared.Head.{Head}
-use Rattle.printed.specs.Printed.{noPrefix}
 use Rattle.plan.specs.declared.Plan.{Plan}
 use Rattle.layout.specs.declared.Pos.{Pos}
 use Rattle.layout.specs.Layout.{Laid, layout}
-use Rattle.measure.specs.Measure.{measured}
-use Rattle.due_text.specs.Bytes.{Reading, reading}
-use Rattle.pages.specs.declared.Job.{Job}
+use Rattle.due_text.specs.Bytes.{Reading}
 use Rattle.pages.specs.Outcome.{outcome, written}
 use Rattle.verdict.specs.declared.Verdict.the-variants as verdict
 use Rattle.state.specs.declared.State.{State}
 use Rattle.answer.specs.Result.{Result, refuse, placeOf, at, answered}
-use Rattle.work.specs.declared.Prepared.{Prepared}
 
 -- a plan's groups, from the state's place on
 abbrev pub laidOf : Head → List ℕ → State → Plan → Laid
 laidOf h t s p = layout h t p (placeOf s)
-
--- what is printed of them: nothing stands in front of the records
-abbrev pub jobOf : Head → List ℕ → State → Plan → Bool → Job
-jobOf h t s p flag = record { plan = p; pos = placeOf s; measured = measured h t (laidOf h t s p); flag = flag; prefix = noPrefix }
 
 -- what a call has worked out before it prints: whether every addition stayed in range, the layout, what the items read, and the parts of the next
 -- state that the layout does not give
@@ -36,18 +28,6 @@ pub record Work : Type 0 where
   pub sums : List ℤ
   pub flags : List Bool
   pub kept : List ℕ
-
--- the same from the parts that the code holds
-abbrev pub prepared : Head → List ℕ → List ℕ → List ℕ → List ℕ → Prepared → Work
-prepared h t lits kept row w = record {
-  ok = w .totals .ok;
-  laid = layout h t (w .job .plan) (w .job .pos);
-  inputs = reading lits kept row (w .totals .shown) (w .job .flag) (w .job .prefix);
-  phase = w .phase;
-  sums = w .totals .sums;
-  flags = w .flags;
-  kept = w .kept;
-}
 
 -- the next state, at a place
 abbrev pub moved : Work → Pos → State

@@ -1,12 +1,11 @@
 -- `work::first_row` meets its contract.
 -- Assumes nothing.
 use mathlib.Core.Path.{sym, ap, _∙_}
-use mathlib.Core.Bool.{true}
 use lib.ListN.{length}
 use borrow.Author.Needs.{needs}
 use Rattle.state.proofs.Kept.{length-padded}
 use Rattle.work.proofs.Ready.{row-short, clearable, first-adding, first-called, first-printable}
-use Rattle.work.proofs.Works.{job-is, first-so}
+use Rattle.work.proofs.Works.{first-so}
 use Rattle.work.proofs.first_row.Statement.{statement}
 use Rattle.work.proofs.first_row.Tie as tie
 
@@ -55,8 +54,7 @@ returns c =
     let p = j .before .before in
     let f = flags p in
     let w = totals p in
-    let a = start w .args in
-    first-so _ _ _ _ _ _ _ (w .totals-first .ensures) (found w .find-detail .ensures .0) (p .before .first-plan .ensures) (job-is (a .h) (a .t .now) (a .s) _ (p .place-of .ensures) (j .before .measure .ensures) true (j .job-of .ensures)) (f .before .before .before .padded .ensures) (f .before .before .details-of .ensures .is) (f .before .flags-set .ensures) (f .cleared .ensures) (c .before .before .run .ensures)
+    first-so _ _ _ _ _ _ _ (w .totals-first .ensures) (found w .find-detail .ensures .0) (p .before .first-plan .ensures) (p .place-of .ensures) (j .job-of .ensures) (f .before .before .before .padded .ensures) (f .before .before .details-of .ensures .is) (f .before .flags-set .ensures) (f .cleared .ensures) (c .before .before .run .ensures)
 
 pub first-row-spec : {M : Type 1} → statement M
 first-row-spec =

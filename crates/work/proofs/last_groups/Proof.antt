@@ -1,10 +1,9 @@
 -- `work::last_groups` meets its contract.
 -- Assumes nothing.
 use mathlib.Core.Path.{sym}
-use mathlib.Core.Bool.{false}
 use borrow.Author.Needs.{needs}
 use Rattle.work.proofs.Ready.{last-adding, last-called, last-printable}
-use Rattle.work.proofs.Works.{job-is, turned-is, last-so}
+use Rattle.work.proofs.Works.{flags-are, last-so}
 use Rattle.work.proofs.last_groups.Statement.{statement}
 use Rattle.work.proofs.last_groups.Tie as tie
 
@@ -34,7 +33,7 @@ returns c =
     let m = measured j in
     let l = m .before .before in
     let a = start (m .before) .args in
-    last-so _ _ _ _ _ (l .before .totals-last .ensures) (l .last-plan .ensures) (job-is (a .h) (a .t .now) (a .s) _ (m .before .place-of .ensures) (m .measure .ensures) false (j .job-of .ensures)) (turned-is (a .h) (a .t .now) (a .s) _ (m .before .place-of .ensures) (m .measure .ensures) _ (j .before .flags-turned .ensures)) (c .before .before .run .ensures)
+    last-so _ _ _ _ _ (l .before .totals-last .ensures) (l .last-plan .ensures) (m .before .place-of .ensures) (j .job-of .ensures) (flags-are (a .h) (a .t .now) (a .s) _ _ (m .before .place-of .ensures) (m .measure .ensures) (j .before .flags-turned .ensures)) (c .before .before .run .ensures)
 
 pub last-groups-spec : {M : Type 1} → statement M
 last-groups-spec =

@@ -1,11 +1,10 @@
 -- `work::later_row` meets its contract: refusal 7, then what the printing answers.
 -- Assumes nothing.
-use mathlib.Core.Path.{refl}
 use borrow.Author.Needs.{needs}
 use borrow.Author.Tests.{not-true, not-false}
 use Rattle.work.proofs.Ready.{detail-few, row-short, clearable, later-comparable, later-adding, later-called, later-printable}
-use Rattle.work.proofs.Settled.{sums-refused, answered-so}
-use Rattle.work.proofs.Works.{job-is, turned-is, later-so}
+use Rattle.work.proofs.Settled.{answered-so}
+use Rattle.work.proofs.Works.{flags-are, later-refused, later-so}
 use Rattle.work.proofs.later_row.Statement.{statement}
 use Rattle.work.proofs.later_row.Tie as tie
 
@@ -31,7 +30,7 @@ start w = found w .before .before .before .before .before
 returns : tie.Need-returns
 returns c =
     let w = c .before .before in
-    later-so _ _ _ _ _ _ _ (level w .break-level .ensures .0) (w .totals-later .ensures) (found w .find-detail .ensures .0) refl refl refl refl refl refl (sums-refused _ _ _ _ _ (not-true _ (c .before .if1 .taken)) (c .refusal .ensures))
+    later-refused _ _ _ _ _ _ _ (level w .break-level .ensures .0) (w .totals-later .ensures) (not-true _ (c .before .if1 .taken)) (c .refusal .ensures)
 
 measure-requires : tie.Need-measure-requires
 measure-requires c κs =
@@ -63,9 +62,8 @@ returns-2 c =
     let w = totals p in
     -- the state is `t4` here: the code lends parts of it
     let a = start w .args in
-    later-so _ _ _ _ _ _ _ (level w .break-level .ensures .0) (w .totals-later .ensures) (found w .find-detail .ensures .0) (p .before .later-plan .ensures) (j .before .before .flags-at .ensures)
-    (turned-is (a .h) (a .t .now) (a .t4) _ (p .place-of .ensures) (m .measure .ensures) _ (j .before .flags-turned .ensures))
-    (job-is (a .h) (a .t .now) (a .t4) _ (p .place-of .ensures) (m .measure .ensures) _ (j .job-of .ensures))
+    later-so _ _ _ _ _ _ _ (level w .break-level .ensures .0) (w .totals-later .ensures) (found w .find-detail .ensures .0) (p .before .later-plan .ensures) (p .place-of .ensures) (j .before .before .flags-at .ensures)
+    (flags-are (a .h) (a .t .now) (a .t4) _ _ (p .place-of .ensures) (m .measure .ensures) (j .before .flags-turned .ensures)) (j .job-of .ensures)
     (c .before .before .cleared .ensures) (c .before .kept-at .ensures)
     (answered-so _ _ _ _ _ (not-false _ (p .before .before .if1 .left)) (c .conclude .ensures) (o .call .ensures))
 
