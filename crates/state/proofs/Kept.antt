@@ -6,7 +6,7 @@ use mathlib.Core.Bool.{Bool, true, false}
 use mathlib.Core.List.{List, _++_}
 use native.Mathlib.Nat.{zero-add}
 use native.Mathlib.Omega.{arith}
-use borrow.Author.Tests.{le-ltb}
+use borrow.Author.Tests.{lt-ltb, le-ltb}
 use lib.Dec.{ltb}
 use lib.ListN.{length, getD, take, drop, replicate, length-drop, length-replicate, getD-replicate}
 use lib.Seq.{take-append-le, drop-append-le, getD-append-add, getD-drop}
@@ -83,7 +83,12 @@ pub length-flagsSet : (n : ℕ) → length (flagsSet n) ≡ flagCount
 unfolding flagsSet
 length-flagsSet n = length-listBelow flagCount (λ i. ltb i n)
 
--- flags beyond the details are clear
+-- the flags of n details are set
+pub flagsSet-within : (n i : ℕ) → i < n → i < flagCount → getD (flagsSet n) i false ≡ true
+unfolding flagsSet
+flagsSet-within n i l m = list-at false flagCount (λ k. ltb k n) i m ∙ lt-ltb i n l
+
+-- those beyond them are clear
 pub flagsSet-beyond : (n i : ℕ) → n ≤ i → i < flagCount → getD (flagsSet n) i false ≡ false
 unfolding flagsSet
 flagsSet-beyond n i l m = list-at false flagCount (λ k. ltb k n) i m ∙ le-ltb i n l
