@@ -27,7 +27,7 @@ use Rattle.room.specs.Course.{Course, behind, course, onward}
 use Rattle.room.proofs.Courses.{course-short, course-append, lines-append}
 use Rattle.cutting.specs.Cut.{Piece, chunks, printedBy, Cut, cut}
 use Rattle.cutting.specs.Claims.{SizedChunks, Roomy}
-use Rattle.cutting.proofs.Feeds.{Tidy, given, courseOf, Ready, runOf, run-room, length-unfinished, Went, went, taken-all, fed-course}
+use Rattle.cutting.proofs.Feeds.{Tidy, given, courseOf, Ready, runOf, run-room, length-held, Went, went, taken-all, fed-course}
 
 module _ (d : List ℕ) (accepts : checked d ≡ checks.Accepted) (A : facts.Accepted (headOf d) (table d) (literals d)) where
   abbrev h : Head
@@ -52,7 +52,7 @@ module _ (d : List ℕ) (accepts : checked d ≡ checks.Accepted) (A : facts.Acc
   follows-none : (f : Feeder) → Ready d accepts A f → Follows f (cut d f []) (courseFrom f (chunks []))
   unfolding cut chunks
   follows-none f R =
-      rw (append-nil (unfinished f), course-short (given d accepts A f) (h .reclen) (A .record1) (f .state) (unfinished f) (omega (arith, length-unfinished d accepts A f R, R .held)))
+      rw (append-nil (unfinished f), course-short (given d accepts A f) (h .reclen) (A .record1) (f .state) (unfinished f) (omega (arith, length-held d accepts A f R, R .held)))
       (record { printed = refl; state = refl; verdict = refl; kept = append-nil (unfinished f); whole = λ e. refl; detail = refl })
 
   -- ---- one chunk, then the rest

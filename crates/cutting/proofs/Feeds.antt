@@ -9,7 +9,7 @@ use native.Mathlib.Omega.{arith}
 use borrow.Author.Tests.{ltb-true, lt-ltb, eqb-true, eqb-false, ne-eqb}
 use lib.Dec.{ltb, eqb}
 use lib.ListN.{length, take, drop}
-use lib.Seq.{length-take-le, take-at, drop-length, drop-append-add}
+use lib.Seq.{take-at, drop-length, drop-append-add}
 use Rattle.counts.proofs.Laws.{by-test, by-cond}
 use Rattle.splice.specs.Splice.{splice}
 use Rattle.tables.specs.declared.Head.{Head}
@@ -34,9 +34,10 @@ use Rattle.feeder.specs.declared.Fed.{Fed}
 use Rattle.feeder.specs.declared.FeederVerdict.the-variants.{Call}
 use Rattle.feeder.specs.Feeder.{unfinished, joined, holding, FedResult, Typed}
 use Rattle.feeder.specs.Calls.{tookAll, stoppedAt, fedOf, fedBy, call, sized, feed}
-use Rattle.room.specs.Row.{rowOf, lent}
+use Rattle.feeder.proofs.Laws.{length-unfinished}
+use Rattle.room.specs.Row.{rowOf, putInto}
 use Rattle.room.specs.Course.{Course, behind, Given, course}
-use Rattle.room.proofs.Rows.{row-lent, Going, row-going, row-ample}
+use Rattle.room.proofs.Rows.{row-put, Going, row-going, row-ample}
 use Rattle.room.proofs.Courses.{left-short, course-keeps}
 use Rattle.room.proofs.Runs.{Covers, through-covers, through-course, done-then, through-room}
 use Rattle.cutting.specs.Cut.{printedBy, feederTried}
@@ -96,9 +97,9 @@ module _ (d : List ℕ) (accepts : checked d ≡ checks.Accepted) (A : facts.Acc
       (λ l. absurd (let q = rw (o, l) at e in let z : _≡_ {A = ℕ} 0 1 = cc in omega arith)))
       (λ o. absurd (let q = rw o at e in let z : _≡_ {A = ℕ} 0 1 = cc in omega arith))
 
-  pub row-is : (f : Feeder) (s : State) (row out : List ℕ) → rowUnder d (f .detail) s row out ≡ lent s out (given f s row)
+  pub row-is : (f : Feeder) (s : State) (row out : List ℕ) → rowUnder d (f .detail) s row out ≡ putInto s out (given f s row)
   unfolding report.call
-  row-is f s row out = rw accepts (row-lent h t (literals d) A (f .detail) s row out)
+  row-is f s row out = rw accepts (row-put h t (literals d) A (f .detail) s row out)
 
   -- ---- the run of a feed
   module _ (f : Feeder) (R : Ready f) (bytes out : List ℕ) where
@@ -136,9 +137,8 @@ module _ (d : List ℕ) (accepts : checked d ≡ checks.Accepted) (A : facts.Acc
     run-first n =
         ⊎-elim (λ (e : (runOf .run .done ≡ 0) × (runOf .run .state ≡ f .state)). absurd (n (e .0))) (λ (l : 0 + h .reclen ≤ runOf .run .done). let m = l in omega arith) (run-covers .moves)
 
-  pub length-unfinished : (f : Feeder) → Ready f → length (unfinished f) ≡ f .held
-  unfolding unfinished
-  length-unfinished f R = length-take-le (f .held) (f .tail) (omega (arith, R .held, R .long, A .record256))
+  pub length-held : (f : Feeder) → Ready f → length (unfinished f) ≡ f .held
+  length-held f R = length-unfinished f (omega (arith, R .held, R .long, A .record256))
 
   pub unfinished-none : (f : Feeder) → f .held ≡ 0 → unfinished f ≡ []
   unfolding unfinished
@@ -208,7 +208,7 @@ module _ (d : List ℕ) (accepts : checked d ≡ checks.Accepted) (A : facts.Acc
     unfolding stoppedWith
     went-some e n =
         let l = run-first f R chunk out n in
-        let m = length-unfinished f R in
+        let m = length-held f R in
         let k : length (unfinished f) + (x .run .done - f .held) ≡ x .run .done = omega (arith, R .held) in
         record {
           verdict = refl;

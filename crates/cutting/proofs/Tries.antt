@@ -26,7 +26,7 @@ use Rattle.room.specs.Row.{rowOf}
 use Rattle.room.specs.Course.{Course, behind, course}
 use Rattle.cutting.specs.Cut.{printedBy}
 use Rattle.cutting.specs.Claims.{Roomy, Again}
-use Rattle.cutting.proofs.Feeds.{Tidy, tidy-same, courseOf, Ready, runOf, run-covers, run-then, length-unfinished, unfinished-none, Went, went, taken-all, fed-course}
+use Rattle.cutting.proofs.Feeds.{Tidy, tidy-same, courseOf, Ready, runOf, run-covers, run-then, length-held, unfinished-none, Went, went, taken-all, fed-course}
 
 module _ (d : List ℕ) (accepts : checked d ≡ checks.Accepted) (A : facts.Accepted (headOf d) (table d) (literals d)) (f : Feeder) (R : Ready d accepts A f)
     (chunk out : List ℕ) (z : sized chunk ≡ true) (nine : feeder.number (feed d f chunk out .fed .verdict) ≡ 9) where
@@ -55,10 +55,10 @@ module _ (d : List ℕ) (accepts : checked d ≡ checks.Accepted) (A : facts.Acc
       ne-eqb (number (run1 .run .verdict)) 0 (λ q. omega arith)
 
   long : length (joined f chunk) ≡ f .held + length chunk
-  long = length-append (unfinished f) chunk ∙ ap (λ (n : ℕ). n + length chunk) (length-unfinished d accepts A f R)
+  long = length-append (unfinished f) chunk ∙ ap (λ (n : ℕ). n + length chunk) (length-held d accepts A f R)
 
   long-rest : length (joined next rest) ≡ next .held + length rest
-  long-rest = length-append (unfinished next) rest ∙ ap (λ (n : ℕ). n + length rest) (length-unfinished d accepts A next (W1 .ready))
+  long-rest = length-append (unfinished next) rest ∙ ap (λ (n : ℕ). n + length rest) (length-held d accepts A next (W1 .ready))
 
   -- the refused record and what is behind it
   left : length (joined next rest) ≡ length (joined f chunk) - run1 .run .done

@@ -19,14 +19,15 @@ use Rattle.description.specs.declared.Checked.the-variants.{Accepted, Broken}
 use Rattle.description.specs.Check.{checked}
 use Rattle.accepted.specs.Accepted as facts
 use Rattle.state.specs.declared.State.{State}
-use Rattle.state.specs.State.{keptSize, started, freshAt}
+use Rattle.state.specs.State.{keptSize}
 use Rattle.state_rules.specs.Rules.{stateOk}
 use Rattle.verdict.specs.declared.Verdict.{Verdict}
 use Rattle.verdict.specs.declared.Verdict.the-variants as verdict
-use Rattle.verdict.specs.Verdict.{number, accepted}
+use Rattle.verdict.specs.Verdict.{number}
 use Rattle.refusals.specs.declared.Tried.{Tried}
 use Rattle.refusals.specs.declared.Tried.the-variants.{Passed, Refused}
 use Rattle.refusals.specs.Stages.{then, begunIn, detailTried}
+use Rattle.refusals.proofs.Stages.{refused-passed}
 use Rattle.answer.specs.declared.Answer.{Answer}
 use Rattle.answer.specs.Result.{Result, Returns}
 use Rattle.calls.specs.declared.Asked.the-variants as asked
@@ -44,22 +45,22 @@ use Rattle.feeder.specs.declared.FeederCall.the-variants.{Initiate, Feed
 use Rattle.feeder.specs.declared.FeederVerdict.the-variants.{Chunk, Unfinished, Call}
 use Rattle.feeder.specs.declared.Fed.{Fed}
 use Rattle.feeder.specs.Feeder.{chunkMax, unfinished, joined, holding, refusal, Feeds}
-use Rattle.feeder.specs.Calls.{feederOk, tookAll, stoppedAt, fedOf, fedBy, begun, endedIf, tried, unless, callOn, call, feed}
+use Rattle.feeder.specs.Calls.{feederOk, fedOf, fedBy, begun, endedIf, tried, unless, callOn, call, feed}
 use Rattle.feeder.specs.Facts.{Joins, Used}
 
 -- ---- the bytes held and the chunk
-module _ (f : Feeder) (chunk : List ℕ) (long : f .held ≤ length (f .tail)) where
-  length-unfinished : length (unfinished f) ≡ f .held
-  unfolding unfinished
-  length-unfinished = length-take-le (f .held) (f .tail) long
+pub length-unfinished : (f : Feeder) → f .held ≤ length (f .tail) → length (unfinished f) ≡ f .held
+unfolding unfinished
+length-unfinished f long = length-take-le (f .held) (f .tail) long
 
+module _ (f : Feeder) (chunk : List ℕ) (long : f .held ≤ length (f .tail)) where
   pub length-joined : length (joined f chunk) ≡ f .held + length chunk
-  length-joined = length-append (unfinished f) chunk ∙ ap (λ (k : ℕ). k + length chunk) length-unfinished
+  length-joined = length-append (unfinished f) chunk ∙ ap (λ (k : ℕ). k + length chunk) (length-unfinished f long)
 
   module _ (old : List ℕ) (room : f .held + length chunk ≤ length old) where
     written : {mid new : List ℕ} → mid ≡ splice old 0 (take (f .held) (f .tail)) → new ≡ splice mid (f .held) (take (length chunk) chunk) → new ≡ splice old 0 (joined f chunk)
     unfolding unfinished
-    written a b = splice-then old 0 (unfinished f) (f .held) chunk (joined f chunk) a (rw (take-length chunk) at b) (rw length-unfinished (omega arith)) refl (omega arith)
+    written a b = splice-then old 0 (unfinished f) (f .held) chunk (joined f chunk) a (rw (take-length chunk) at b) (rw (length-unfinished f long) (omega arith)) refl (omega arith)
 
     front : {new : List ℕ} {r : ℕ} → new ≡ splice old 0 (joined f chunk) → r ≡ length (joined f chunk) → take r new ≡ joined f chunk
     unfolding splice
@@ -135,9 +136,6 @@ module _ (h : Head) (t : List ℕ) (one : One) (last : Result) (f : Feeder) (a :
     call-ended i x = rw (e, i) x
 
 -- what passing the tests of a chunk says
-refused-passed : {X : Type 0} {v : Verdict} → _≡_ {A = Tried} (Refused v) Passed → X
-refused-passed e = let z : _≡_ {A = ℕ} 0 1 = cc in absurd (omega arith)
-
 begun-ok : (ok : Bool) (phase : ℕ) (x : Tried) → then (begunIn ok phase) x ≡ Passed → ok ≡ true
 begun-ok true phase x e = refl
 begun-ok false phase x e = refused-passed e

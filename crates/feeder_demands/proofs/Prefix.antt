@@ -12,9 +12,9 @@ use lib.Seq.{take-take}
 use Rattle.counts.proofs.Laws.{by-test, by-cond, and-l, and-r}
 use Rattle.pagination.specs.All.{All}
 use Rattle.state.specs.declared.State.{State}
-use Rattle.verdict.specs.declared.Verdict.{Verdict}
-use Rattle.verdict.specs.declared.Verdict.the-variants.{Accepted, Description, State as BadState, Phase, Detail, Length, Field, Sum, Pages, Room}
+use Rattle.verdict.specs.declared.Verdict.the-variants.{Accepted}
 use Rattle.verdict.specs.Verdict.{accepted}
+use Rattle.verdict.proofs.Laws.{is-accepted}
 use Rattle.answer.specs.Result.{Result}
 use Rattle.stream.specs.Run.{One, Ran, further, halted, next, goes, ran, begun, through}
 use Rattle.stream.proofs.Laws.{stays, here}
@@ -28,19 +28,6 @@ take-part size zero k l m = take-take size k l (omega arith)
 take-part size (suc a) zero l m = absurd (omega arith)
 take-part size (suc a) (suc k) [] m = refl
 take-part size (suc a) (suc k) (x ∷ l) m = take-part size a k l (omega arith)
-
--- one verdict accepts
-accepted-is : (v : Verdict) → accepted v ≡ true → v ≡ Accepted
-accepted-is Accepted e = refl
-accepted-is (Description k) e = absurd (false≢true e)
-accepted-is BadState e = absurd (false≢true e)
-accepted-is Phase e = absurd (false≢true e)
-accepted-is Detail e = absurd (false≢true e)
-accepted-is Length e = absurd (false≢true e)
-accepted-is (Field i) e = absurd (false≢true e)
-accepted-is Sum e = absurd (false≢true e)
-accepted-is Pages e = absurd (false≢true e)
-accepted-is Room e = absurd (false≢true e)
 
 -- a run, as if the record that it stopped at were not there
 abbrev pub soFar : Ran → Ran
@@ -146,7 +133,7 @@ module _ (one : One) (rows : List ℕ) (size : ℕ) where
       (λ g. by-cond (λ (z : Ran). ran one rows size n z .run .done ≤ x .run .done + m → Alone m x (ran one rows size n z)) (accepted (result x .answer .verdict))
       (λ e f.
       let z = further size x (result x) in
-      alone-next n x v g m (ran one rows size n z) e (ran-further n z) f (λ m'. alone n m' z (accepted-is (result x .answer .verdict) e)))
+      alone-next n x v g m (ran one rows size n z) e (ran-further n z) f (λ m'. alone n m' z (is-accepted (result x .answer .verdict) e)))
       (λ e f. alone-halted n x v g e m))
       (λ g f. alone-here m x v)
 

@@ -24,20 +24,20 @@ use Rattle.refusals.specs.Stages.{then, begunTried, detailTried, recordT
 use Rattle.refusals.specs.Facts.{Begun, RowIn}
 
 -- ---- what passing says
-no : {X : Type 0} {v : Verdict} → _≡_ {A = Tried} (Refused v) Passed → X
-no e = let z : _≡_ {A = ℕ} 0 1 = cc in absurd (omega arith)
+pub refused-passed : {X : Type 0} {v : Verdict} → _≡_ {A = Tried} (Refused v) Passed → X
+refused-passed e = let z : _≡_ {A = ℕ} 0 1 = cc in absurd (omega arith)
 
 -- both stages have passed
 both : {X : Type 0} (a b : Tried) → then a b ≡ Passed → (a ≡ Passed → b ≡ Passed → X) → X
 both Passed b e f = f refl e
-both (Refused v) b e f = no e
+both (Refused v) b e f = refused-passed e
 
 guarded : {X : Type 0} (b : Bool) (v : Verdict) (rest : Tried) → cond b rest (Refused v) ≡ Passed → (b ≡ true → rest ≡ Passed → X) → X
 guarded true v rest e f = f refl e
-guarded false v rest e f = no e
+guarded false v rest e f = refused-passed e
 
 unguarded : {X : Type 0} (b : Bool) (v : Verdict) (rest : Tried) → cond b (Refused v) rest ≡ Passed → (b ≡ false → rest ≡ Passed → X) → X
-unguarded true v rest e f = no e
+unguarded true v rest e f = refused-passed e
 unguarded false v rest e f = f refl e
 
 module _ (h : Head) (t : List ℕ) (s : state.State) where

@@ -34,16 +34,16 @@ use Rattle.every_call.proofs.Shows.{Shows, first-shows, later-shows}
 use Rattle.every_call.proofs.Rules.{call-stands}
 use Rattle.stream.specs.Run.{rowOn}
 use Rattle.room.proofs.Stages.{Early, early-then, early-begun, early-detail, early-record}
-use Rattle.room.specs.Row.{Row, noRow, workRow, unlessRow, rowOf, lent}
+use Rattle.room.specs.Row.{Row, noRow, workRow, unlessRow, rowOf, putInto}
 
 -- a row without lines that nothing refuses leaves the output alone too
-no-row-lent : (s : State) (out : List ℕ) (v : Verdict) → refuse s out v ≡ lent s out (noRow s v)
-no-row-lent s out v = by-test (accepted v) (λ e. rw (e, le-ltb (length out) 0 (omega arith), splice-nil out 0) refl) (λ e. rw e refl)
+no-row-put : (s : State) (out : List ℕ) (v : Verdict) → refuse s out v ≡ putInto s out (noRow s v)
+no-row-put s out v = by-test (accepted v) (λ e. rw (e, le-ltb (length out) 0 (omega arith), splice-nil out 0) refl) (λ e. rw e refl)
 
 module _ (h : Head) (t lits : List ℕ) (A : Accepted h t lits) where
-  work-lent : (s : State) (w : Work) → Shows h t w → (out : List ℕ) → settled h t s w out ≡ lent s out (workRow h t s w)
+  work-put : (s : State) (w : Work) → Shows h t w → (out : List ℕ) → settled h t s w out ≡ putInto s out (workRow h t s w)
   unfolding settled outcome written
-  work-lent s w x out =
+  work-put s w x out =
       let long : length (dueBytes h t (w .inputs) (w .laid .dues)) ≡ byteCount h t (w .inputs .prefix) (w .laid .dues) = length-dueBytes h t (w .inputs) (x .items) (rw (x .plain) no-prefix-short) (x .groups) in
       by-test (w .ok)
       (λ o. by-test (pastLast (w .laid))
@@ -53,17 +53,17 @@ module _ (h : Head) (t lits : List ℕ) (A : Accepted h t lits) where
       (λ q. rw (o, p, long, q) refl)))
       (λ o. rw o refl)
 
-  unless-lent : (s : State) (out : List ℕ) (r : Result) (x : Row) → r ≡ lent s out x → (k : Tried) → unless s out r k ≡ lent s out (unlessRow s x k)
-  unless-lent s out r x e Passed = e
-  unless-lent s out r x e (Refused v) = no-row-lent s out v
+  unless-put : (s : State) (out : List ℕ) (r : Result) (x : Row) → r ≡ putInto s out x → (k : Tried) → unless s out r k ≡ putInto s out (unlessRow s x k)
+  unless-put s out r x e Passed = e
+  unless-put s out r x e (Refused v) = no-row-put s out v
 
   row-shows : (s : State) (detail : ℕ) (row : List ℕ) → Shows h t (rowWork h t lits s detail row)
   row-shows s detail row = by-test (eqb (s .phase) started) (λ e. rw e (first-shows h t lits A s detail row)) (λ e. rw e (later-shows h t lits A s detail row))
 
-  pub row-lent : (detail : ℕ) (s : State) (row out : List ℕ) → rowOn h t lits detail s row out ≡ lent s out (rowOf h t lits detail s row)
+  pub row-put : (detail : ℕ) (s : State) (row out : List ℕ) → rowOn h t lits detail s row out ≡ putInto s out (rowOf h t lits detail s row)
   unfolding callOn rowOf
-  row-lent detail s row out =
-      unless-lent s out _ (workRow h t s (rowWork h t lits s detail row)) (work-lent s (rowWork h t lits s detail row) (row-shows s detail row) out) (rowTried h t s detail row)
+  row-put detail s row out =
+      unless-put s out _ (workRow h t s (rowWork h t lits s detail row)) (work-put s (rowWork h t lits s detail row) (row-shows s detail row) out) (rowTried h t s detail row)
 
   -- ---- what is kept from row to row
   pub record Going (s : State) : Type 0 where
@@ -94,7 +94,7 @@ module _ (h : Head) (t lits : List ℕ) (A : Accepted h t lits) where
   row-stands : (detail : ℕ) (s : State) (row : List ℕ) → Stands h t lits s → accepted (rowOf h t lits detail s row .verdict) ≡ true → Stands h t lits (rowOf h t lits detail s row .state)
   row-stands detail s row S e =
       let x = rowOf h t lits detail s row in
-      rw (row-lent detail s row (x .lines), e, le-ltb (length (x .lines)) (length (x .lines)) (omega arith)) at (call-stands h t lits A s S (x .lines) (Generate detail) row)
+      rw (row-put detail s row (x .lines), e, le-ltb (length (x .lines)) (length (x .lines)) (omega arith)) at (call-stands h t lits A s S (x .lines) (Generate detail) row)
 
   pub row-going : (detail : ℕ) (s : State) (row : List ℕ) → Going s → accepted (rowOf h t lits detail s row .verdict) ≡ true → Going (rowOf h t lits detail s row .state)
   row-going detail s row g e = record { stands = row-stands detail s row (g .stands) e; busy = row-busy detail s row (g .busy) }

@@ -16,29 +16,17 @@ use Rattle.splice.specs.Splice.{splice}
 use Rattle.splice.proofs.Laws.{length-splice}
 use Rattle.state.specs.declared.State.{State}
 use Rattle.verdict.specs.declared.Verdict.{Verdict}
-use Rattle.verdict.specs.declared.Verdict.the-variants.{Accepted, Description, State as BadState, Phase, Detail, Length, Field, Sum, Pages, Room}
+use Rattle.verdict.specs.declared.Verdict.the-variants.{Accepted, Room}
 use Rattle.verdict.specs.Verdict.{number, accepted}
+use Rattle.verdict.proofs.Laws.{is-accepted}
 use Rattle.stream.specs.Run.{One, Ran, stepped, next, goes, ran, begun, through}
 use Rattle.stream.proofs.Laws.{here, stays}
-use Rattle.room.specs.Row.{Row, lent}
+use Rattle.room.specs.Row.{Row, putInto}
 use Rattle.room.specs.Course.{Course, refusedAt, behind, Given, course}
 use Rattle.room.proofs.Courses.{course-short, course-refused, course-row, row-at, course-append}
 
--- only one verdict is acceptance
-pub is-accepted : (v : Verdict) → accepted v ≡ true → v ≡ Accepted
-is-accepted Accepted e = refl
-is-accepted (Description k) e = absurd (true≢false (sym e))
-is-accepted BadState e = absurd (true≢false (sym e))
-is-accepted Phase e = absurd (true≢false (sym e))
-is-accepted Detail e = absurd (true≢false (sym e))
-is-accepted Length e = absurd (true≢false (sym e))
-is-accepted (Field i) e = absurd (true≢false (sym e))
-is-accepted Sum e = absurd (true≢false (sym e))
-is-accepted Pages e = absurd (true≢false (sym e))
-is-accepted Room e = absurd (true≢false (sym e))
-
 module _ (given : Given) (size : ℕ) (positive : 1 ≤ size) (ample : (s : State) (row : List ℕ) → number (given s row .verdict) ≡ 9 → ⊥)
-    (one : One) (is : (s : State) (row out : List ℕ) → one s row out ≡ lent s out (given s row)) (rows : List ℕ) where
+    (one : One) (is : (s : State) (row out : List ℕ) → one s row out ≡ putInto s out (given s row)) (rows : List ℕ) where
   -- a run under way: every record so far is accepted
   pub record Midway (x : Ran) : Type 0 where
     pub going : x .run .verdict ≡ Accepted
@@ -104,15 +92,15 @@ module _ (given : Given) (size : ℕ) (positive : 1 ≤ size) (ample : (s : Stat
     enough : size ≤ length (drop (x .run .done) rows)
     enough = omega (arith, length-drop (x .run .done) rows)
 
-    next-lent : next one rows size x ≡ stepped size x (lent (x .run .state) out r)
+    next-put : next one rows size x ≡ stepped size x (putInto (x .run .state) out r)
     unfolding next
-    next-lent = ap (stepped size x) (is (x .run .state) row out)
+    next-put = ap (stepped size x) (is (x .run .state) row out)
 
     next-refused : accepted (r .verdict) ≡ false → next one rows size x ≡ here (x .run .done) (x .run .count) (r .verdict) (x .run .state) (x .out)
-    next-refused a = next-lent ∙ rw (a, a) refl
+    next-refused a = next-put ∙ rw (a, a) refl
 
     next-room : accepted (r .verdict) ≡ true → ltb (length out) (length (r .lines)) ≡ true → next one rows size x ≡ here (x .run .done) (x .run .count) Room (x .run .state) (x .out)
-    next-room a q = next-lent ∙ rw (a, q) refl
+    next-room a q = next-put ∙ rw (a, q) refl
 
     -- its lines are some of those to come
     room-tight : accepted (r .verdict) ≡ true → ltb (length out) (length (r .lines)) ≡ true → length (x .out) < x .run .count + length (course given size (x .run .state) (drop (x .run .done) rows) .lines)
@@ -125,7 +113,7 @@ module _ (given : Given) (size : ℕ) (positive : 1 ≤ size) (ample : (s : Stat
     after = here (x .run .done + size) (x .run .count + length (r .lines)) (r .verdict) (r .state) (take (x .run .count) (x .out) ++ splice out 0 (r .lines))
 
     next-row : accepted (r .verdict) ≡ true → ltb (length out) (length (r .lines)) ≡ false → next one rows size x ≡ after
-    next-row a q = next-lent ∙ rw (a, q, a) refl
+    next-row a q = next-put ∙ rw (a, q, a) refl
 
     module _ (a : accepted (r .verdict) ≡ true) (q : length (r .lines) ≤ length out) where
       after-long : length (after .out) ≡ length (x .out)

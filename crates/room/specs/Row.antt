@@ -43,8 +43,8 @@ unfoldable pub rowOf : Head → List ℕ → List ℕ → ℕ → State → List
 rowOf h t lits detail s row = unlessRow s (workRow h t s (rowWork h t lits s detail row)) (rowTried h t s detail row)
 
 -- and refusal 9: the row into an output
-abbrev pub lent : State → List ℕ → Row → Result
-lent s out x =
+abbrev pub putInto : State → List ℕ → Row → Result
+putInto s out x =
     cond (accepted (x .verdict))
     (cond (ltb (length out) (length (x .lines))) (refuse s out Room)
     (record { answer = record { verdict = x .verdict; count = length (x .lines); state = x .state }; out = splice out 0 (x .lines) }))

@@ -4,7 +4,7 @@ use mathlib.Core.List.{List, [], _∷_, _++_}
 use Rattle.book.specs.Book.{initiate, generate, terminate}
 use Rattle.book.specs.Demand.{Use}
 use Rattle.file.specs.Number.{bytesOfNumbers}
-use Rattle.whole_run.specs.Text.{bytes, lines, lent}
+use Rattle.whole_run.specs.Text.{bytes, lines, withRoom}
 
 -- text at 0 width 2; number at 2 width 4
 abbrev fields : List ℕ
@@ -45,12 +45,12 @@ description =
 -- "Records AA+005, AA+007, BB-002, BB+009, then TERMINATE"
 unfoldable pub calls : List Use
 calls =
-    lent 0 initiate
-    ∷ lent 100 (generate 0 (bytes "AA+005"))
-    ∷ lent 100 (generate 0 (bytes "AA+007"))
-    ∷ lent 100 (generate 0 (bytes "BB-002"))
-    ∷ lent 100 (generate 0 (bytes "BB+009"))
-    ∷ lent 100 terminate
+    withRoom 0 initiate
+    ∷ withRoom 100 (generate 0 (bytes "AA+005"))
+    ∷ withRoom 100 (generate 0 (bytes "AA+007"))
+    ∷ withRoom 100 (generate 0 (bytes "BB-002"))
+    ∷ withRoom 100 (generate 0 (bytes "BB+009"))
+    ∷ withRoom 100 terminate
     ∷ []
 
 -- all accepted

@@ -42,7 +42,7 @@ use mathlib.Core.List.{List, [], _∷_, _++_}
 use Rattle.book.specs.Book.{initiate, generate, terminate}
 use Rattle.book.specs.Demand.{Use}
 use Rattle.file.specs.Number.{bytesOfNumbers}
-use Rattle.whole_run.specs.Text.{bytes, lines, lent}
+use Rattle.whole_run.specs.Text.{bytes, lines, withRoom}
 
 -- kind, offset and width of each field; the control's field
 abbrev fields : List ℕ
@@ -112,15 +112,15 @@ description =
 -- the third row comes with a byte too few, and again with enough; then a second report
 unfoldable pub calls : List Use
 calls =
-    lent 0 initiate
-    ∷ lent 85 (generate 0 (bytes "A+05"))
-    ∷ lent 17 (generate 0 (bytes "A+07"))
-    ∷ lent 135 (generate 0 (bytes "B-12"))
-    ∷ lent 136 (generate 0 (bytes "B-12"))
-    ∷ lent 51 terminate
-    ∷ lent 0 initiate
-    ∷ lent 85 (generate 0 (bytes "C+99"))
-    ∷ lent 51 terminate
+    withRoom 0 initiate
+    ∷ withRoom 85 (generate 0 (bytes "A+05"))
+    ∷ withRoom 17 (generate 0 (bytes "A+07"))
+    ∷ withRoom 135 (generate 0 (bytes "B-12"))
+    ∷ withRoom 136 (generate 0 (bytes "B-12"))
+    ∷ withRoom 51 terminate
+    ∷ withRoom 0 initiate
+    ∷ withRoom 85 (generate 0 (bytes "C+99"))
+    ∷ withRoom 51 terminate
     ∷ []
 
 -- "9 | output shorter than the call's lines need"

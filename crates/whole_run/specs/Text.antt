@@ -19,5 +19,5 @@ lines [] = []
 lines (s ∷ ss) = bytes s ++ (10 ∷ lines ss)
 
 -- a call with n bytes of output
-abbrev pub lent : ℕ → Call → Use
-lent n c = record { call = c; out = replicate n 0 }
+abbrev pub withRoom : ℕ → Call → Use
+withRoom n c = record { call = c; out = replicate n 0 }
