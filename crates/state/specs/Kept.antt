@@ -35,7 +35,7 @@ abbrev pub flagsAt : Head → List ℕ → ℕ → List Bool → List Bool
 flagsAt h t b flags = flagsIf h t (breaks h b) flags
 
 -- document 02, R-2: "a page change, RF's turn too, sets each detail's flag, also when the detail itself causes it". From one page to another: "A page
--- change .. adds 1 to page", and nothing else does
+-- change .. adds 1 to page", at RF's turn "page rises by 1", and nothing else raises it
 abbrev pub flagsTurned : Head → List ℕ → ℕ → ℕ → List Bool → List Bool
 flagsTurned h t from to flags = flagsIf h t (ltb from to) flags
 

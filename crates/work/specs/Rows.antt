@@ -22,6 +22,7 @@ abbrev pub flagsAfter : Head → List ℕ → State → Plan → List Bool → L
 flagsAfter h t s p flags = flagsTurned h t (s .page) (laidOf h t s p .to .page) flags
 
 -- "First GENERATE: phase running, keep the record, set each detail's indicate flag; RH, PH, all CH senior to junior; then subtotal; then the detail."
+-- Page changes find all flags set
 unfoldable pub firstWork : Head → List ℕ → List ℕ → State → ℕ → List ℕ → Work
 firstWork h t lits s detail row =
     let totals = totalsFirst h t row detail (s .sums) in
