@@ -12,7 +12,6 @@ use Rattle.sums.specs.declared.Totals.{Totals}
 use Rattle.amounts.specs.Totals.{totalsFirst, totalsLater, totalsLast}
 use Rattle.plan.specs.declared.Plan.{Plan}
 use Rattle.plan.specs.Plan.{firstPlan, laterPlan, lastPlan}
-use Rattle.printed.specs.Printed.{noPrefix}
 use Rattle.layout.specs.declared.Pos.{Pos}
 use Rattle.measure.specs.declared.Measured.{Measured}
 use Rattle.measure.specs.Measure.{Measures}
@@ -24,17 +23,13 @@ use Rattle.answer.specs.declared.Answer.{Answer}
 use Rattle.answer.specs.Result.{placeOf, refusal, Returns}
 use Rattle.verdict.specs.declared.Verdict.the-variants.{Sum}
 use Rattle.work.specs.Work.{settled}
-use Rattle.work.specs.Facts.{prepared}
+use Rattle.work.specs.Facts.{jobOf, prepared}
 use Rattle.work.specs.Rows.{flagsAfter, firstWork, laterWork, lastWork}
 use Rattle.work.proofs.Settled.{sums-refused}
 
 -- the flags after the page changes of a plan that is measured from the state's place
 pub flags-are : (h : Head) (t : List ℕ) (s : State) (p : Plan) {pos : Pos} {m : Measured} {set : List Bool} (flags : List Bool) → pos ≡ placeOf s → Measures h t p pos m → set ≡ flagsTurned h t (pos .page) (m .to .page) flags → set ≡ flagsAfter h t s p flags
 flags-are h t s p flags e x q = rw (q, x .is, e) refl
-
--- what a call prints of a plan, measured
-abbrev pub jobOf : Plan → Pos → Measured → Bool → Job
-jobOf p pos m flag = record { plan = p; pos = pos; measured = m; flag = flag; prefix = noPrefix }
 
 -- a later row, refused for its sums before it is measured
 pub later-refused : (h : Head) (t lits : List ℕ) (s : State) (out : List ℕ) (detail : ℕ) (row : List ℕ) {r : Answer} {b : ℕ} {totals : Totals} → b ≡ breakLevel h t (s .kept) row → totals ≡ totalsLater h t row detail b (s .sums) → totals .ok ≡ false → r ≡ refusal s Sum → Returns (settled h t s (laterWork h t lits s detail row) out) r out

@@ -1,6 +1,6 @@
 -- What the work of a call may take for granted: the description is accepted, and the state keeps its rules. And the work as the code holds it.
 use mathlib.Core.Path.{_≡_}
-use mathlib.Core.Bool.{true}
+use mathlib.Core.Bool.{Bool, true}
 use mathlib.Core.List.{List}
 use Prim.Native.Nat.{ℕ}
 use Rattle.tables.specs.declared.Head.{Head}
@@ -8,7 +8,12 @@ use Rattle.accepted.specs.Accepted.{Accepted}
 use Rattle.state.specs.declared.State.{State}
 use Rattle.state_rules.specs.Rules.{stateOk}
 use Rattle.state.specs.State.{Sized}
+use Rattle.printed.specs.Printed.{noPrefix}
+use Rattle.plan.specs.declared.Plan.{Plan}
+use Rattle.layout.specs.declared.Pos.{Pos}
 use Rattle.layout.specs.Layout.{layout}
+use Rattle.measure.specs.declared.Measured.{Measured}
+use Rattle.pages.specs.declared.Job.{Job}
 use Rattle.due_text.specs.Bytes.{reading}
 use Rattle.work.specs.declared.Prepared.{Prepared}
 use Rattle.work.specs.Work.{Work}
@@ -17,6 +22,10 @@ pub record Stands (h : Head) (t lits : List ℕ) (s : State) : Type 0 where
   pub accepted : Accepted h t lits
   pub rules : stateOk h t s ≡ true
   pub sized : Sized s
+
+-- what is printed of a plan, from a place on and measured: nothing stands in front of the records
+abbrev pub jobOf : Plan → Pos → Measured → Bool → Job
+jobOf p pos m flag = record { plan = p; pos = pos; measured = m; flag = flag; prefix = noPrefix }
 
 -- the work from the parts that the code holds
 abbrev pub prepared : Head → List ℕ → List ℕ → List ℕ → List ℕ → Prepared → Work

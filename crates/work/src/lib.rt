@@ -1,7 +1,6 @@
 // The work of a row and of the last footings, on the tables of an accepted description.
 ghost use mathlib.Core.Path.{_≡_};
 ghost use lib.ListN.{length};
-ghost use Rattle.printed.specs.Printed.{noPrefix};
 ghost use Rattle.layout.specs.Facts.{Called};
 ghost use Rattle.measure.specs.Measure.{Measures};
 ghost use Rattle.due_text.specs.Bytes.{reading};
@@ -11,7 +10,7 @@ ghost use Rattle.refusals.specs.Facts.{RowIn};
 ghost use Rattle.answer.specs.Result.{Returns};
 ghost use Rattle.work.specs.Work.{settled};
 ghost use Rattle.work.specs.Rows.{firstWork, laterWork, lastWork};
-ghost use Rattle.work.specs.Facts.{Stands, prepared};
+ghost use Rattle.work.specs.Facts.{Stands, jobOf, prepared};
 use answer::Answer;
 use layout::Pos;
 use measure::Measured;
@@ -63,7 +62,7 @@ fn run<'a>(
 
 // What is printed of a plan, from a place on and measured.
 fn job_of(plan: Plan, pos: Pos, measured: Measured, flag: bool) -> Job
-    ensures { λ r. ⌜ r ≡ record { plan = plan; pos = pos; measured = measured; flag = flag; prefix = noPrefix } ⌝ }
+    ensures { λ r. ⌜ r ≡ jobOf plan pos measured flag ⌝ }
 {
     let prefix = printed::no_prefix();
     Job {
