@@ -1,12 +1,12 @@
 -- Laws of `splice`. Assumes nothing.
 use mathlib.Core.Path.{_≡_, refl, sym, ap, _∙_}
-use Prim.Native.Nat.{ℕ, _+_, _≤_, _<_}
+use Prim.Native.Nat.{ℕ, _+_, _-_, _≤_, _<_}
 use mathlib.Core.List.{List, [], _∷_, _++_, append-assoc, append-nil}
 use native.Mathlib.Nat.{add-assoc, add-zero}
 use native.Mathlib.Numerals.{add-one}
 use native.Mathlib.Omega.{arith}
 use lib.ListN.{length, take, drop, set, length-append, length-take, length-drop, take-append-drop, drop-of-length-le}
-use lib.Seq.{length-take-le, take-at, drop-at, take-append-le, drop-drop, set-split, take-take}
+use lib.Seq.{length-take-le, take-at, drop-at, take-append-le, drop-drop, set-split, take-take, take-add}
 use Rattle.splice.specs.Splice.{splice}
 
 -- one write: the length, what stands in front, what stands behind, and what was written
@@ -85,3 +85,38 @@ module _ (old : List ℕ) (at i : ℕ) (xs : List ℕ) (y : ℕ) (zs : List ℕ)
       ap (λ (l : List ℕ). splice l at xs) (splice-set old (at + i) y h ∙ ap (λ (k : ℕ). splice old (at + k) (y ∷ [])) (sym e))
       ∙ splice-before old at xs (y ∷ []) (omega arith)
       ∙ ap (splice old at) z
+
+-- parts of a list that is copied: one behind the other
+pub take-parts : (s : List ℕ) (i j k : ℕ) → take j (drop i s) ++ take k (drop (i + j) s) ≡ take (j + k) (drop i s)
+take-parts s i j k = sym (take-add j k (drop i s) ∙ ap (λ (l : List ℕ). take j (drop i s) ++ take k l) (drop-drop j i s))
+
+-- a write over another that is no longer
+splice-over : (old : List ℕ) (at : ℕ) (xs ys : List ℕ) → length xs ≤ length ys → at ≤ length old → splice (splice old at xs) at ys ≡ splice old at ys
+unfolding splice
+splice-over old at xs ys h l =
+    let new = splice old at xs in
+    let k = length ys - length xs in
+    let e : at + length xs + k ≡ at + length ys = omega arith in
+    let front : take at new ≡ take at old = take-at (take at old) _ at (length-take-le at old l) in
+    let back : drop (at + length ys) new ≡ drop (at + length ys) old =
+    ap (λ (j : ℕ). drop j new) (sym e) ∙ sym (drop-drop k (at + length xs) new) ∙ ap (drop k) (drop-splice old at xs l) ∙ drop-drop k (at + length xs) old ∙ ap (λ (j : ℕ). drop j old) e in
+    ap (λ (f : List ℕ). f ++ (ys ++ drop (at + length ys) new)) front ∙ ap (λ (b : List ℕ). take at old ++ (ys ++ b)) back
+
+-- the first j and the last j of a list that is no longer than both
+pub splice-ends : (old : List ℕ) (at j : ℕ) (s : List ℕ) → j ≤ length s → length s ≤ j + j → at + length s ≤ length old
+    → splice (splice old at (take j s)) (at + (length s - j)) (drop (length s - j) s) ≡ splice old at s
+splice-ends old at j s h m l =
+    let p = length s - j in
+    let e : p + (j - p) ≡ j = omega arith in
+    let lp : length (take p s) ≡ p = length-take-le p s (omega arith) in
+    let mid = splice old at (take p s) in
+    let z = take (j - p) (drop p s) in
+    let lz : length z ≤ length (drop p s) = simp (length-take, length-drop) (omega arith) in
+    let lm : length mid ≡ length old = length-splice old at (take p s) (omega (arith, lp)) in
+    let cut : take j s ≡ take p s ++ z = ap (λ (k : ℕ). take k s) (sym e) ∙ take-add p (j - p) s in
+    ap (λ (b : List ℕ). splice (splice old at b) (at + p) (drop p s)) cut
+    ∙ ap (λ (b : List ℕ). splice b (at + p) (drop p s)) (sym (splice-after old at (take p s) z (omega arith)) ∙ ap (λ (k : ℕ). splice mid (at + k) z) lp)
+    ∙ splice-over mid (at + p) z (drop p s) lz (omega (arith, lm))
+    ∙ ap (λ (k : ℕ). splice mid (at + k) (drop p s)) (sym lp)
+    ∙ splice-after old at (take p s) (drop p s) (omega arith)
+    ∙ ap (splice old at) (take-append-drop p s)
