@@ -16,7 +16,7 @@ os.chdir(root)
 DOCS = ["docs/AUDIT.md", "docs/PROMISES.md", "docs/DECISIONS.md"]
 FILE = re.compile(r"`([a-z0-9_]+)/(specs|proofs)/([A-Za-z0-9_]+)(?:\.([^`\s]+))?`")
 FUNCTION = re.compile(r"`([a-z0-9_]+)::((?:[A-Za-z0-9_]+::)*)([a-z0-9_]+)`")
-IMPORT = re.compile(r"^use Rattle·([a-z0-9_]+?)(?:·specs)?\.specs\.([A-Za-z0-9_]+)", re.M)
+IMPORT = re.compile(r"^(?:unfoldable )?(?:pub )?use Rattle·([a-z0-9_]+?)(?:·specs)?\.specs\.([A-Za-z0-9_]+)", re.M)
 ROW = re.compile(r"^(\| `([a-z0-9_]+)/specs/([A-Za-z0-9_]+)` \| )(\d+)( \|.*)$", re.M)
 CLAUSE = re.compile(r'^\| "[^|]*\| ([^|]*) \| `([^`]*)` \|$', re.M)
 faults = []
@@ -63,7 +63,7 @@ def check_lines():
 
 def lines(crate, file):
     text = read(f"crates/{crate}/specs/{file}.antt")
-    return sum(1 for line in text.split("\n") if line.strip() and not line.startswith("use "))
+    return sum(1 for line in text.split("\n") if line.strip() and not re.match(r"(unfoldable )?(pub )?use ", line))
 
 
 def closure(roots):

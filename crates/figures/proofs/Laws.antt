@@ -1,106 +1,76 @@
 -- Laws of printed numbers and text. Assumes nothing.
 use mathlib.Core.Path.{_≡_, refl, sym, ap, _∙_}
-use Prim.Native.Nat.{ℕ, zero, suc, _+_, _-_, _/_, _%_, _^_, _≤_, _<_}
+use Prim.Native.Nat.{ℕ, zero, suc, _+_, _-_, _/_, _^_, _≤_, _<_}
 use mathlib.Core.Bool.{Bool}
-use mathlib.Core.List.{List, [], _∷_, _++_, append-nil}
-use native.Mathlib.Nat.{div-div-eq-div-mul, div-lt-iff-lt-mul, pow-suc}
-use native.Mathlib.Numerals.{add-one}
+use mathlib.Core.List.{List, [], _∷_, _++_, append-assoc, append-nil}
 use native.Mathlib.Omega.{arith}
-use borrow.Author.Tests.{lt-ltb, le-ltb, le-leb, lt-leb, leb-true, eq-eqb, ne-eqb}
-use lib.Dec.{ltb, leb, eqb, lit<}
+use borrow.Author.Tests.{le-ltb, le-leb, lt-leb, leb-true, eq-eqb, ne-eqb}
+use lib.Dec.{leb, eqb}
 use lib.IntN.{ℤ, pos, negsuc}
-use lib.ListN.{length, take, replicate, length-append, length-take, length-replicate}
-use lib.Seq.{take-all, take-length}
+use lib.ListN.{length, take, drop, replicate, length-append, length-take, length-drop, length-replicate, replicate-append-replicate}
+use lib.Seq.{take-all, take-length, take-take, drop-at, drop-drop, drop-append-le}
 use lib.Signed.{ltZ}
-use Rattle.counts.proofs.Laws.{by-test, by-cond}
-use Rattle.figures.specs.Number.{digits, placesIn, places, fraction, fractionLength, plain, sign, signedText, alignRight, isNegative, numberField, alignLeft}
+use Rattle.counts.proofs.Laws.{by-cond}
+use Rattle.splice.specs.Splice.{splice}
+use Rattle.splice.proofs.Laws.{splice-ends}
+use Rattle.digits.specs.Ends.{Ends}
+pub use Rattle.digits.proofs.Laws.{length-digits}
+use Rattle.digits.proofs.Laws.{digits-end}
+use Rattle.digits.proofs.EndLaws.{ends-front}
+use Rattle.figures.specs.Number.{digits, places, fraction, point, plain, sign, signedText, alignRight, isNegative, numberField, alignLeft}
 
--- digits
-
-pub length-digits : (k n : ℕ) → length (digits k n) ≡ k
-unfolding digits
-length-digits zero n = refl
-length-digits (suc k) n = length-append (digits k (n / 10)) _ ∙ ap (λ (j : ℕ). j + 1) (length-digits k (n / 10)) ∙ omega arith
-
--- all but the last, and the last
-pub digits-last : (k n : ℕ) → 0 < k → digits (k - 1) (n / 10) ++ ((48 + n % 10) ∷ []) ≡ digits k n
-unfolding digits
-digits-last k n h =
-    let e : suc (k - 1) ≡ k = omega arith in
-    ap (λ (j : ℕ). digits j n) e
-
--- one more digit is cut off
-pub whole-next : (n k : ℕ) → n / 10 ^ k / 10 ≡ n / 10 ^ (k + 1)
-whole-next n k = rw (add-one, pow-suc) (div-div-eq-div-mul n (10 ^ k) 10)
-
--- places
-
-pub placesIn-last : (f n : ℕ) → n < 10 → placesIn f n ≡ 1
-unfolding placesIn
-placesIn-last zero n h = refl
-placesIn-last (suc f) n h = rw (lt-ltb n 10 h) refl
-
-placesIn-suc : (f n : ℕ) → 10 ≤ n → placesIn (suc f) n ≡ placesIn f (n / 10) + 1
-unfolding placesIn
-placesIn-suc f n h = rw (le-ltb n 10 h) refl
-
-placesIn-le : (f n : ℕ) → placesIn f n ≤ f + 1
-unfolding placesIn
-placesIn-le zero n = omega arith
-placesIn-le (suc f) n = let l = placesIn-le f (n / 10) in by-cond (λ (k : ℕ). k ≤ suc f + 1) (ltb n 10) (λ e. omega arith) (λ e. omega arith)
-
-pub places-le : (n : ℕ) → places n ≤ 20
-unfolding places
-places-le n = placesIn-le 19 n
-
--- a turn of the loop that counts: k digits are counted, and n is what is left of the number
-pub record Counted (k n : ℕ) : Type 0 where
-  pub room : k + 1 ≤ 20
-  pub same : placesIn (20 - k) n ≡ placesIn (20 - (k + 1)) (n / 10) + 1
-  pub below : n / 10 < 10 ^ (21 - (k + 1))
-
-counted : (k f n : ℕ) → 20 - k ≡ f → 10 ≤ n → n < 10 ^ suc f → Counted k n
-counted k zero n e h b = absurd (omega arith)
-counted k (suc f) n e h b =
-    let e′ : 20 - (k + 1) ≡ f = omega arith in
-    let e″ : 21 - (k + 1) ≡ suc f = omega arith in
-    record { room = omega arith; same = rw (e, e′) (placesIn-suc f n h); below = rw e″ (div-lt-iff-lt-mul (lit< tt) .1 (rw pow-suc at b)) }
-
-pub places-next : (k n : ℕ) → k ≤ 20 → 10 ≤ n → n < 10 ^ (21 - k) → Counted k n
-places-next k n l h b =
-    let e : 21 - k ≡ suc (20 - k) = omega arith in
-    counted k (20 - k) n refl h (rw e at b)
+-- the last k of w digits, lent from offset j on
+pub lent-last : (d : List ℕ) (w j k n : ℕ) → d ≡ digits w n → j + k ≡ w → take k (take (w - j) (drop j d)) ≡ digits k n
+lent-last d w j k n e h =
+    let j′ : j ≡ w - k = omega arith in
+    take-take k (w - j) (drop j d) (omega arith)
+    ∙ ap (λ (l : List ℕ). take k (drop j l)) e
+    ∙ ap (λ (m : ℕ). take k (drop m (digits w n))) j′
+    ∙ digits-end w k n (omega arith)
 
 -- the text of a number
+pub point-none : (decimals : ℕ) → decimals ≤ 0 → point decimals ≡ []
+point-none decimals h = rw (eq-eqb decimals 0 (omega arith)) refl
 
-module _ (n decimals : ℕ) where
-  pub fraction-none : decimals ≤ 0 → fraction decimals n ≡ []
-  unfolding fraction
-  fraction-none h = rw (eq-eqb decimals 0 (omega arith)) refl
+pub point-some : (decimals : ℕ) → 0 < decimals → point decimals ≡ 46 ∷ []
+point-some decimals h = rw (ne-eqb decimals 0 (λ e. omega arith)) refl
 
-  pub fraction-some : 0 < decimals → fraction decimals n ≡ 46 ∷ digits decimals n
-  unfolding fraction
-  fraction-some h = rw (ne-eqb decimals 0 (λ e. omega arith)) refl
+pub length-point : (decimals : ℕ) → length (point decimals) ≤ 1
+length-point decimals = by-cond (λ (l : List ℕ). length l ≤ 1) (eqb decimals 0) (λ e. omega arith) (λ e. omega arith)
 
-  pub length-fraction : length (fraction decimals n) ≡ fractionLength decimals
-  unfolding fraction
-  length-fraction = by-test (eqb decimals 0) (λ e. rw e refl) (λ e. rw e (omega (arith, length-digits decimals n)))
+fraction-parts : (decimals n : ℕ) → point decimals ++ digits decimals n ≡ fraction decimals n
+unfolding fraction digits
+fraction-parts zero n = refl
+fraction-parts (suc k) n = rw (ne-eqb (suc k) 0 (λ e. omega arith)) refl
 
-  module _ (negative : Bool) (w : ℕ) (e : w ≡ n / 10 ^ decimals) where
-    -- in its parts; w is the whole part
-    pub signedText-parts : signedText negative n decimals ≡ sign negative ++ (digits (places w) w ++ fraction decimals n)
-    unfolding signedText plain
-    signedText-parts = rw e refl
-
-    pub length-signedText : length (signedText negative n decimals) ≡ length (sign negative) + (places w + fractionLength decimals)
-    length-signedText = ap length signedText-parts ∙ simp (length-append, length-digits, length-fraction)
-
-pub fractionLength-le : (decimals : ℕ) → fractionLength decimals ≤ 1 + decimals
-fractionLength-le decimals = by-cond (λ (k : ℕ). k ≤ 1 + decimals) (eqb decimals 0) (λ e. omega arith) (λ e. omega arith)
+pub signedText-parts : (negative : Bool) (n decimals w : ℕ) → w ≡ n / 10 ^ decimals
+    → sign negative ++ (digits (places w) w ++ (point decimals ++ digits decimals n)) ≡ signedText negative n decimals
+unfolding signedText plain
+signedText-parts negative n decimals w e = rw (e, fraction-parts decimals n) refl
 
 pub isNegative-ltZ : (z : ℤ) → ltZ z (pos 0) ≡ isNegative z
 isNegative-ltZ (pos n) = le-ltb n 0 (omega arith)
 isNegative-ltZ (negsuc n) = refl
+
+-- the last w of a list, put as the first j of them and the last j
+pub last-parts : (old t : List ℕ) (m at w j : ℕ) {mid new : List ℕ} → length t ≡ m → j ≤ w → w ≤ j + j → w ≤ m → at + w ≤ length old
+    → mid ≡ splice old at (take j (drop (m - w) t)) → new ≡ splice mid (at + (w - j)) (take j (drop (m - j) t)) → new ≡ splice old at (drop (m - w) t)
+last-parts old t m at w j {mid} {new} size few most l room e f =
+    let s = drop (m - w) t in
+    let k : length s ≡ w = length-drop (m - w) t ∙ omega (arith, size) in
+    let n : m - w + (w - j) ≡ m - j = omega arith in
+    let long : length (drop (m - j) t) ≤ j = simp length-drop (omega (arith, size)) in
+    let last : take j (drop (m - j) t) ≡ drop (w - j) s = take-all j (drop (m - j) t) long ∙ ap (λ (i : ℕ). drop i t) (sym n) ∙ sym (drop-drop (w - j) (m - w) t) in
+    f
+    ∙ ap (λ (l : List ℕ). splice mid (at + (w - j)) l) last
+    ∙ ap (λ (l : List ℕ). splice l (at + (w - j)) (drop (w - j) s)) e
+    ∙ ap (λ (i : ℕ). splice (splice old at (take j s)) (at + (i - j)) (drop (i - j) s)) (sym k)
+    ∙ splice-ends old at j s (omega (arith, k)) (omega (arith, k)) (omega (arith, k))
+
+drop-replicate : (k n a : ℕ) → k ≤ n → drop k (replicate n a) ≡ replicate (n - k) a
+drop-replicate k n a h =
+    let e : k + (n - k) ≡ n = omega arith in
+    ap (λ (j : ℕ). drop k (replicate j a)) (sym e) ∙ ap (drop k) (sym (replicate-append-replicate k (n - k) a)) ∙ drop-at (replicate k a) (replicate (n - k) a) k (length-replicate k a)
 
 -- items
 
@@ -119,6 +89,18 @@ module _ (w : ℕ) (t : List ℕ) where
       by-cond (λ (l : List ℕ). length l ≡ w) (leb (length t) w)
       (λ e. simp (length-append, length-replicate) (omega (arith, leb-true (length t) w e)))
       (λ e. length-replicate w 42)
+
+  -- "one law over the width": the item is the end of the text behind blanks, whatever its width
+  pub alignRight-end : (m start : ℕ) {new : List ℕ} → Ends (replicate m 32) m t new start → length t ≤ w → replicate (w - m) 32 ++ drop (m - w) new ≡ alignRight w t
+  alignRight-end m start {new} e h =
+      let k = m - w in
+      let few : k ≤ length (replicate {A = ℕ} start 32) = omega (arith, length-replicate {A = ℕ} start 32, e .begins) in
+      let rest : w - m + (start - k) ≡ w - length t = omega (arith, e .begins) in
+      ap (λ (l : List ℕ). replicate (w - m) 32 ++ drop k l) (ends-front m 32 t e)
+      ∙ ap (λ (l : List ℕ). replicate (w - m) 32 ++ l) (drop-append-le k (replicate start 32) t few ∙ ap (λ (l : List ℕ). l ++ t) (drop-replicate k start 32 (omega (arith, e .begins))))
+      ∙ sym (append-assoc (replicate (w - m) 32) (replicate (start - k) 32) t)
+      ∙ ap (λ (l : List ℕ). l ++ t) (replicate-append-replicate (w - m) (start - k) 32 ∙ ap (λ (j : ℕ). replicate j 32) rest)
+      ∙ sym (alignRight-fits h)
 
   pub alignLeft-short : length t ≤ w → alignLeft w t ≡ take (length t) t ++ replicate (w - length t) 32
   unfolding alignLeft

@@ -1,32 +1,19 @@
 -- How numbers and text are printed into an item. Assumes nothing: these are definitions.
-use Prim.Native.Nat.{ℕ, zero, suc, _+_, _-_, _/_, _%_, _^_}
+use Prim.Native.Nat.{ℕ, _+_, _-_, _/_, _^_}
 use mathlib.Core.Bool.{Bool, true, false, cond}
 use mathlib.Core.List.{List, [], _∷_, _++_}
-use lib.Dec.{ltb, leb, eqb}
+use lib.Dec.{leb, eqb}
 use lib.IntN.{ℤ, pos, negsuc, natAbs}
 use lib.ListN.{length, replicate, take}
-
--- the last k decimal digits of n, the most significant first
-unfoldable pub digits : ℕ → ℕ → List ℕ
-digits zero n = []
-digits (suc k) n = digits k (n / 10) ++ ((48 + n % 10) ∷ [])
-
--- how many decimal digits n has, counting no further than f + 1
-unfoldable pub placesIn : ℕ → ℕ → ℕ
-placesIn zero n = 1
-placesIn (suc f) n = cond (ltb n 10) 1 (placesIn f (n / 10) + 1)
-
--- how many decimal digits n has: a 64-bit number has 1 to 20
-unfoldable pub places : ℕ → ℕ
-places n = placesIn 19 n
+unfoldable pub use Rattle.digits.specs.Digits.{digits, placesIn, places}
 
 -- the point and the decimals, the last digits of n; nothing where there are none
 unfoldable pub fraction : ℕ → ℕ → List ℕ
 fraction decimals n = cond (eqb decimals 0) [] (46 ∷ digits decimals n)
 
--- how long that is
-abbrev pub fractionLength : ℕ → ℕ
-fractionLength decimals = cond (eqb decimals 0) 0 (1 + decimals)
+-- the point alone
+abbrev pub point : ℕ → List ℕ
+point decimals = cond (eqb decimals 0) [] (46 ∷ [])
 
 -- "no leading zeros, at least one digit before the point": n with its decimals behind the point
 unfoldable pub plain : ℕ → ℕ → List ℕ

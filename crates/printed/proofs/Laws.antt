@@ -1,13 +1,24 @@
--- Laws of the printed record and the line buffer: lengths. Assumes nothing.
-use mathlib.Core.Path.{_≡_}
-use Prim.Native.Nat.{ℕ, _+_, _≤_}
-use mathlib.Core.List.{List}
+-- Laws of the printed record and the line buffer: lengths, and page and line as one number. Assumes nothing.
+use mathlib.Core.Path.{_≡_, sym, ap, _∙_}
+use Prim.Native.Nat.{ℕ, _+_, _*_, _/_, _%_, _≤_}
+use mathlib.Core.List.{List, _++_}
 use native.Mathlib.Omega.{arith}
 use lib.ListN.{length, take, length-append, length-replicate}
 use lib.Seq.{length-take-le}
-use Rattle.figures.proofs.Laws.{length-digits}
+use Rattle.digits.proofs.Laws.{length-digits, digits-join, digits-last}
+use Rattle.figures.specs.Number.{digits}
 use Rattle.printed.specs.declared.Prefix.{Prefix}
 use Rattle.printed.specs.Printed.{inFront, noPrefix, Short, numbered, printed, recordSize, blanks}
+
+-- the six digits of the page and the three of the line are the nine of one number
+pub digits-page-line : (page line : ℕ) → digits 9 (page % 1000000 * 1000 + line % 1000) ≡ digits 6 page ++ digits 3 line
+digits-page-line page line =
+    let n = page % 1000000 * 1000 + line % 1000 in
+    let hi : n / 1000 ≡ page % 1000000 = omega arith in
+    let lo : n % 1000 ≡ line % 1000 = omega arith in
+    digits-join 6 3 n
+    ∙ ap (λ (l : List ℕ). l ++ digits 3 n) (ap (digits 6) hi ∙ digits-last 6 page)
+    ∙ ap (λ (l : List ℕ). digits 6 page ++ l) (sym (digits-last 3 n) ∙ ap (digits 3) lo ∙ digits-last 3 line)
 
 pub length-front : (p : Prefix) → Short p → length (inFront p) ≡ p .len
 length-front p s = length-take-le (p .len) (p .bytes) (omega (arith, s .size, s .few))

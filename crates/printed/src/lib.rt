@@ -1,9 +1,11 @@
 // The printed record of a line: what stands in front, page, line, the characters of the line, and a line end.
 ghost use mathlib.Core.Path.{_≡_};
-ghost use Prim.Native.Nat.{_+_, _≤_};
+ghost use Prim.Native.Nat.{_+_, _*_, _%_, _≤_, _<_};
+ghost use mathlib.Core.List.{_++_};
 ghost use lib.ListN.{length};
-ghost use Rattle.splice.specs.Splice.{Wrote};
+ghost use Rattle.splice.specs.Splice.{splice, Wrote};
 ghost use Rattle.file.specs.Limits.{lineMax};
+ghost use Rattle.figures.specs.Number.{digits};
 ghost use Rattle.printed.specs.Printed.{inFront, noPrefix, Short, numbered, printed};
 
 // What stands in front of each printed record: the first `len` of two bytes.
@@ -47,12 +49,34 @@ fn put_numbered(
     requires { ⌜ (w ≤ lineMax) × (at + length (numbered page line w (now text)) ≤ length (now out)) ⌝ }
     ensures { λ r. ⌜ Wrote (now (out .entry)) at (numbered page line w (now (text .entry))) (now (out .exit)) r ⌝ }
 {
-    figures::spell(page as u64, 6, at, out);
-    figures::spell(line, 3, at + 6, out);
+    put_page_line(page, line, at, out);
     splice::copy(text, w, at + 9, out);
     let end = at + 9 + w;
     splice::fill(b'\n', 1, end, out);
     end + 1
+}
+
+// Puts six digits of page and three of line, as one number of nine digits: they are worked out in one go.
+pub fn put_page_line(page: u32, line: u64, at: usize, out: &mut [u8])
+    requires { ⌜ at + 9 ≤ length (now out) ⌝ }
+    ensures { λ _. ⌜ now (out .exit) ≡ splice (now (out .entry)) at (digits 6 page ++ digits 3 line) ⌝ }
+{
+    figures::spell(page_line(page, line), 9, at, out);
+}
+
+// Page and line as one number.
+fn page_line(page: u32, line: u64) -> u64
+    ensures { λ r. ⌜ r ≡ page % 1000000 * 1000 + line % 1000 ⌝ }
+{
+    remainder(page as u64, 1000000) * 1000 + remainder(line, 1000)
+}
+
+// n % limit. Where n is below it, as pages and lines are, nothing is divided.
+fn remainder(n: u64, limit: u64) -> u64
+    requires { ⌜ 0 < limit ⌝ }
+    ensures { λ r. ⌜ r ≡ n % limit ⌝ }
+{
+    if n < limit { n } else { n % limit }
 }
 
 // Puts the record of a line whose text is the first w bytes of a line buffer, and gives the offset behind it.

@@ -1,54 +1,48 @@
--- `figures::put_exact` meets its contract: the sign, the digits of the whole part, the fraction, each right behind the one before. Assumes nothing.
-use mathlib.Core.Path.{_≡_, refl, sym, ap, _∙_}
-use Prim.Native.Nat.{ℕ}
-use mathlib.Core.List.{List, _++_}
+-- `figures::put_exact` meets its contract: decimals, point, digits and sign, each in front of the one before. Assumes nothing.
+use Prim.Native.Nat.{_+_, _-_, _≤_}
+use mathlib.Core.List.{_++_}
 use native.Mathlib.Omega.{arith}
 use borrow.Author.Needs.{needs}
-use Rattle.splice.proofs.Going.{Going, going-start, going-room, going-rest, going-step, going-on}
-use Rattle.figures.specs.Number.{digits, fraction, sign, signedText}
-use Rattle.figures.proofs.Laws.{length-digits, signedText-parts}
+use lib.ListN.{length}
+use Rattle.digits.proofs.Laws.{length-digits}
+use Rattle.digits.proofs.PlaceLaws.{places-le}
+use Rattle.digits.proofs.EndLaws.{ends-as, ends-then}
+use Rattle.figures.specs.Number.{digits, places, point, sign}
+use Rattle.figures.proofs.Laws.{signedText-parts, length-point}
 use Rattle.figures.proofs.put_exact.Statement.{statement}
 use Rattle.figures.proofs.put_exact.Tie as tie
 
-abbrev text : tie.Start → List ℕ
-text s = signedText (s .args .negative) (s .args .n) (s .args .decimals)
+-- in front of the point there is room for all digits, and for the sign in front of those
+late : (c : tie.After-put-point) → 27 ≤ c .put-point .result
+late c =
+    let s = c .before .before .before .before .before .before .before in
+    omega (arith, c .put-point .ensures .begins, length-point (s .args .decimals), s .pre .0)
 
-abbrev unsigned : tie.Start → List ℕ
-unsigned s = digits (s .args .k) (s .args .whole) ++ fraction (s .args .decimals) (s .args .n)
-
-parts : (s : tie.Start) → text s ≡ sign (s .args .negative) ++ unsigned s
-parts s =
+returns : tie.Need-returns
+returns c =
+    let p = c .before .before .before .before .before .before .before .before .before .before in
+    let f = p .before .before .before .before in
+    let s = f .before .before .before in
     let a = s .args in
-    signedText-parts (a .n) (a .decimals) (a .negative) (a .whole) (s .pre .0) ∙ ap (λ (k : ℕ). sign (a .negative) ++ (digits k (a .whole) ++ fraction (a .decimals) (a .n))) (sym (s .pre .1))
-
-started : (s : tie.Start) → Going (s .args .out .now) (s .args .at) (text s) (s .args .out .now) (s .args .at) (text s)
-started s = going-start (s .args .out .now) (s .args .at) (text s) (s .pre .2)
-
-signed : (c : tie.After-put-sign) → Going (c .before .before .before .args .out .now) (c .before .before .before .args .at) (text (c .before .before .before)) (c .put-sign .last .1 .1 .0) (c .put-sign .result) (unsigned (c .before .before .before))
-signed c =
-    let s = c .before .before .before in
-    going-on (started s) (sign (s .args .negative)) (unsigned s) (parts s) (c .put-sign .ensures)
+    let w = f .put-decimals .result in
+    let room : 32 ≤ length (a .out .now) = omega (arith, s .pre .1) in
+    let d = digits (a .decimals) (a .n) in
+    let pd = point (a .decimals) ++ d in
+    let e1 = ends-then (a .out .now) 32 (point (a .decimals)) d room (f .put-decimals .ensures .1) (p .put-point .ensures) in
+    let e2 = ends-then (a .out .now) 32 (digits (places w) w) pd room e1 (c .before .before .before .before .before .before .put .ensures) in
+    let e3 = ends-then (a .out .now) 32 (sign (a .negative)) (digits (places w) w ++ pd) room e2 (c .before .before .put-sign .ensures) in
+    ends-as (signedText-parts (a .negative) (a .n) (a .decimals) w (f .put-decimals .ensures .0)) e3
 
 pub put-exact-spec : {M : Type 1} → statement M
 put-exact-spec =
     tie.close
     (tie.spec
+    (λ c κs. search needs)
+    (λ c κs. search needs)
+    (λ c κs. (omega (arith, late (c .before .before .before)), omega (arith, c .before .before .before .put-point .ensures .begins)))
     (λ c κs.
-    let s = c .before .before in
-    going-room (started s) (sign (s .args .negative)) (unsigned s) (parts s))
-    (λ c κs.
-    let a = c .before .before .before .before .before .before .args in
-    omega (arith, going-room (signed (c .before .before .before)) (digits (a .k) (a .whole)) (fraction (a .decimals) (a .n)) refl, length-digits (a .k) (a .whole)))
-    (λ c.
-    let b = c .before .before .before .before .before .before in
-    let a = b .before .before .before .args in
-    omega (arith, going-room (signed b) (digits (a .k) (a .whole)) (fraction (a .decimals) (a .n)) refl, length-digits (a .k) (a .whole)))
-    (λ c κs.
-    let b = c .before .before .before .before .before .before .before in
-    let a = b .before .before .before .args in
-    going-rest (going-step (signed b) (digits (a .k) (a .whole)) (fraction (a .decimals) (a .n)) refl (c .before .before .before .spell .ensures) (omega (arith, length-digits (a .k) (a .whole)))))
+    let w = c .before .before .before .before .before .before .before .before .before .before .before .put-decimals .result in
+    let e = c .before .before .before .put .ensures .begins in
+    (omega (arith, late (c .before .before .before .before .before .before .before), e, length-digits (places w) w, places-le w), omega (arith, e, c .before .before .before .before .before .before .before .put-point .ensures .begins)))
     (λ c. search needs)
-    (λ c.
-    let b = c .before .before .before .before .before .before .before .before .before .before in
-    let a = b .before .before .before .args in
-    c .before .before .put-fraction .ensures ∙ going-step (signed b) (digits (a .k) (a .whole)) (fraction (a .decimals) (a .n)) refl (c .before .before .before .before .before .before .spell .ensures) (omega (arith, length-digits (a .k) (a .whole))) .same))
+    returns)

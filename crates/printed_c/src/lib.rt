@@ -1,0 +1,26 @@
+// A number in an item, and the page and line of a printed record, by themselves: for tests and for counting instructions.
+ghost use mathlib.Core.Path.{_≡_};
+ghost use mathlib.Core.Bool.{cond};
+ghost use mathlib.Core.List.{_++_};
+ghost use lib.Dec.{leb};
+ghost use lib.ListN.{length};
+ghost use Rattle.figures.specs.Number.{digits, numberField};
+
+// Prints a number over all of out, unless it is to have more than 4 decimals.
+#[no_mangle]
+pub extern "C" fn bailcurlew_number(v: i64, decimals: usize, out: &mut [u8])
+    ensures { λ _. ⌜ now (out .exit) ≡ cond (leb decimals 4) (numberField v decimals (length (now (out .entry)))) (now (out .entry)) ⌝ }
+{
+    if decimals <= 4 {
+        let w = out.len();
+        figures::put_number(v, decimals, w, 0, out);
+    }
+}
+
+// Prints six digits of page and three of line.
+#[no_mangle]
+pub extern "C" fn bailcurlew_page_line(page: u32, line: u64, out: &mut [u8; 9])
+    ensures { λ _. ⌜ now (out .exit) ≡ digits 6 page ++ digits 3 line ⌝ }
+{
+    printed::put_page_line(page, line, 0, out);
+}
