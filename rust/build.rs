@@ -1,18 +1,6 @@
-//! Links the static libraries that `rt staticlib report_c` and `rt staticlib feeder_c` write; BAILCURLEW_STATICLIB names
-//! another folder.
-use std::path::Path;
-
-const FOLDER: &str = "BAILCURLEW_STATICLIB";
-const LIBRARIES: [&str; 2] = ["report_c", "feeder_c"];
+//! Links the calls of a report and of a feeder.
+mod link;
 
 fn main() {
-    let root = std::env::var("CARGO_MANIFEST_DIR").expect("cargo sets it");
-    let default = Path::new(&root).join("../target/staticlib").display().to_string();
-    let folder = std::env::var(FOLDER).unwrap_or(default);
-    println!("cargo:rustc-link-search=native={folder}");
-    println!("cargo:rerun-if-env-changed={FOLDER}");
-    for library in LIBRARIES {
-        println!("cargo:rustc-link-lib=static={library}");
-        println!("cargo:rerun-if-changed={folder}/lib{library}.a");
-    }
+    link::link(&["report_c", "feeder_c"]);
 }

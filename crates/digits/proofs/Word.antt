@@ -2,9 +2,9 @@
 use mathlib.Core.Path.{_≡_, refl, sym, ap, ap₂, _∙_}
 use Prim.Native.Nat.{ℕ, zero, suc, _+_, _-_, _*_, _/_, _%_, _^_, _<_}
 use mathlib.Core.List.{List, [], _∷_, _++_, map, map-append, append-assoc}
-use native.Mathlib.Nat.{add-comm, mul-comm, mul-assoc, add-mul-div-left, add-mul-mod-self-left, div-div-eq-div-mul, div-eq-of-lt, mod-eq-of-lt, mod-lt, lt-of-lt-of-le, pow-suc, pow-le-pow-right, zero-add}
+use native.Mathlib.Nat.{add-comm, add-mul, mul-comm, mul-assoc, add-mul-div-left, add-mul-mod-self-left, div-div-eq-div-mul, div-eq-of-lt, mod-eq-of-lt, mod-lt, lt-of-lt-of-le, pow-suc, pow-le-pow-right, zero-add}
 use native.Mathlib.Omega.{arith}
-use lib.Bits.{bitAnd, and-block, and-mask}
+use lib.Bits.{bitAnd, and-block, and-mask, and-zero-r}
 use lib.Arith.{mod-mul, digits-div, digits-mod}
 use lib.ListN.{length}
 use lib.Pow.{pow-add, pow-pos, split, ones-lt, mod-mod-pow}
@@ -47,44 +47,55 @@ module _ (i j s w n : ℕ) (l : w < 2 ^ (i + j + s)) (small : w / 2 ^ s < 2 ^ j)
       ∙ add-comm (q * 2 ^ k) (w / 2 ^ s)
       ∙ ap (λ (x : ℕ). w / 2 ^ s + x) (mul-comm q (2 ^ k))
 
--- two lanes of four digits by a hundred, and four lanes of two digits by ten
-pub hundredth : (a : ℕ) → a < 10000 → a * 5243 / 524288 ≡ a / 100
-hundredth a h = omega arith
+-- a product and a shift divide
+pub ten-thousandth : (x : ℕ) → x < 100000000 → x * 109951163 / 1099511627776 ≡ x / 10000
+ten-thousandth x l = omega arith
 
-pub tenth : (a : ℕ) → a < 100 → a * 103 / 1024 ≡ a / 10
-tenth a h = omega arith
+pub hundredth : (x : ℕ) → x < 10000 → x * 5243 / 524288 ≡ x / 100
+hundredth x l = omega arith
 
-hundredths : (a b : ℕ) → a < 10000 → b < 10000 → bitAnd ((a + 4294967296 * b) * 5243 / 524288) 545460846719 ≡ a / 100 + 4294967296 * (b / 100)
-hundredths a b la lb =
-    let e : (a + 4294967296 * b) * 5243 ≡ a * 5243 + 4294967296 * (b * 5243 + 4294967296 * 0) = omega arith in
-    let f = hundredth a la in
-    let g = hundredth b lb in
-    ap (λ (x : ℕ). bitAnd (x / 524288) 545460846719) e
-    ∙ lane 6 7 19 (a * 5243) (b * 5243 + 4294967296 * 0) (omega arith) (omega (arith, f)) (127 + 4294967296 * 0) (b * 5243 / 524288 + 4294967296 * 0) (lane 6 7 19 (b * 5243) 0 (omega arith) (omega (arith, g)) 0 0 refl)
-    ∙ omega (arith, f, g)
+pub tenth : (x : ℕ) → x < 100 → x * 103 / 1024 ≡ x / 10
+tenth x l = omega arith
 
-tenths2 : (a b : ℕ) → a < 100 → b < 100 → bitAnd ((a + 65536 * b) * 103 / 1024) 983055 ≡ a / 10 + 65536 * (b / 10)
-tenths2 a b la lb =
-    let ta = tenth a la in
-    let tb = tenth b lb in
-    let e : (a + 65536 * b) * 103 ≡ a * 103 + 65536 * (b * 103 + 65536 * 0) = omega arith in
-    let l2 = lane 2 4 10 (b * 103) 0 (omega arith) (omega (arith, tb)) 0 0 refl in
-    let l1 = lane 2 4 10 (a * 103) (b * 103 + 65536 * 0) (omega arith) (omega (arith, ta)) _ _ l2 in
-    ap (λ (x : ℕ). bitAnd (x / 1024) 983055) e ∙ l1 ∙ omega (arith, ta, tb)
+-- numbers below a bound, as parts and digits are
+abbrev Below : ℕ → List ℕ → Type 0
+Below c [] = Unit {0}
+Below c (x ∷ xs) = (x < c) × Below c xs
 
-tenths : (a b c d : ℕ) → a < 100 → b < 100 → c < 100 → d < 100
-    → bitAnd ((a + 65536 * (b + 65536 * (c + 65536 * d))) * 103 / 1024) 4222189076152335 ≡ a / 10 + 65536 * (b / 10 + 65536 * (c / 10 + 65536 * (d / 10)))
-tenths a b c d la lb lc ld =
-    let ta = tenth a la in
-    let tb = tenth b lb in
-    let tc = tenth c lc in
-    let td = tenth d ld in
-    let e : (a + 65536 * (b + 65536 * (c + 65536 * d))) * 103 ≡ a * 103 + 65536 * (b * 103 + 65536 * (c * 103 + 65536 * (d * 103 + 65536 * 0))) = omega arith in
-    let l4 = lane 2 4 10 (d * 103) 0 (omega arith) (omega (arith, td)) 0 0 refl in
-    let l3 = lane 2 4 10 (c * 103) (d * 103 + 65536 * 0) (omega arith) (omega (arith, tc)) _ _ l4 in
-    let l2 = lane 2 4 10 (b * 103) (c * 103 + 65536 * (d * 103 + 65536 * 0)) (omega arith) (omega (arith, tb)) _ _ l3 in
-    let l1 = lane 2 4 10 (a * 103) (b * 103 + 65536 * (c * 103 + 65536 * (d * 103 + 65536 * 0))) (omega arith) (omega (arith, ta)) _ _ l2 in
-    ap (λ (x : ℕ). bitAnd (x / 1024) 4222189076152335) e ∙ l1 ∙ omega (arith, ta, tb, tc, td)
+below-last : (c : ℕ) (xs : List ℕ) (y : ℕ) → Below c xs → y < c → Below c (xs ++ (y ∷ []))
+below-last c [] y h l = (l, tt)
+below-last c (x ∷ xs) y h l = (h .0, below-last c xs y (h .1) l)
+
+parts-below : (base k n : ℕ) → 0 < base → Below base (parts base k n)
+unfolding parts
+parts-below base zero n h = tt
+parts-below base (suc k) n h = below-last base (parts base k (n / base)) (n % base) (parts-below base k (n / base) h) (mod-lt n h)
+
+digits-below : (k n : ℕ) → Below 256 (digits k n)
+unfolding digits
+digits-below zero n = tt
+digits-below (suc k) n = below-last 256 (digits k (n / 10)) (48 + n % 10) (digits-below k (n / 10)) (omega arith)
+
+-- All lanes at once: where x * m without its last s binary digits is x / b for each x below c, it is so for each lane.
+module _ (i j s m b c : ℕ)
+    (fits : (x : ℕ) → x < c → x * m < 2 ^ (i + j + s)) (small : (x : ℕ) → x < c → x * m / 2 ^ s < 2 ^ j) (quotient : (x : ℕ) → x < c → x * m / 2 ^ s ≡ x / b) where
+  quotients : (xs : List ℕ) → Below c xs
+      → bitAnd (word (2 ^ (i + j + s)) xs * m / 2 ^ s) (word (2 ^ (i + j + s)) (map (λ (x : ℕ). 2 ^ j - 1) xs)) ≡ word (2 ^ (i + j + s)) (map (λ (x : ℕ). x / b) xs)
+  unfolding word
+  quotients [] h = and-zero-r (0 * m / 2 ^ s)
+  quotients (x ∷ xs) h =
+      let u = 2 ^ (i + j + s) in
+      let n = word u xs in
+      let e : (x + u * n) * m ≡ x * m + u * (n * m) = add-mul x (u * n) m ∙ ap (λ (z : ℕ). x * m + z) (mul-assoc u n m) in
+      ap (λ (z : ℕ). bitAnd (z / 2 ^ s) ((2 ^ j - 1) + u * word u (map (λ (y : ℕ). 2 ^ j - 1) xs))) e
+      ∙ lane i j s (x * m) (n * m) (fits x (h .0)) (small x (h .0)) _ _ (quotients xs (h .1))
+      ∙ ap (λ (z : ℕ). z + u * word u (map (λ (y : ℕ). y / b) xs)) (quotient x (h .0))
+
+hundredths : (xs : List ℕ) → Below 10000 xs → bitAnd (word 4294967296 xs * 5243 / 524288) (word 4294967296 (map (λ (x : ℕ). 127) xs)) ≡ word 4294967296 (map (λ (x : ℕ). x / 100) xs)
+hundredths = quotients 6 7 19 5243 100 10000 (λ x l. omega arith) (λ x l. omega (arith, hundredth x l)) hundredth
+
+tenths : (xs : List ℕ) → Below 100 xs → bitAnd (word 65536 xs * 103 / 1024) (word 65536 (map (λ (x : ℕ). 15) xs)) ≡ word 65536 (map (λ (x : ℕ). x / 10) xs)
+tenths = quotients 2 4 10 103 10 100 (λ x l. omega arith) (λ x l. omega (arith, tenth x l)) tenth
 
 -- each number as two, by its quotient and its remainder
 unfoldable halves : ℕ → List ℕ → List ℕ
@@ -112,18 +123,15 @@ parts-halves base (suc k) n h =
     ∙ sym (halves-append base (parts (base * base) k (n / (base * base))) (n % (base * base) ∷ []))
 
 -- twice as many lanes of half the width: each number's quotient, and its remainder in the lane behind
-pairs-word : (a b : ℕ) → (a + 4294967296 * b) * 65536 ≡ word 65536 (halves 100 (a ∷ b ∷ [])) + (a / 100 + 4294967296 * (b / 100)) * 6553599
+hundreds-word : (xs : List ℕ) → word 4294967296 xs * 65536 ≡ word 65536 (halves 100 xs) + word 4294967296 (map (λ (x : ℕ). x / 100) xs) * 6553599
 unfolding word halves
-pairs-word a b = omega arith
+hundreds-word [] = refl
+hundreds-word (x ∷ xs) = omega (arith, hundreds-word xs)
 
-digits-word2 : (a b : ℕ) → (a + 65536 * b) * 256 ≡ word 256 (halves 10 (a ∷ b ∷ [])) + (a / 10 + 65536 * (b / 10)) * 2559
+tens-word : (xs : List ℕ) → word 65536 xs * 256 ≡ word 256 (halves 10 xs) + word 65536 (map (λ (x : ℕ). x / 10) xs) * 2559
 unfolding word halves
-digits-word2 a b = omega arith
-
-digits-word : (a b c d : ℕ)
-    → (a + 65536 * (b + 65536 * (c + 65536 * d))) * 256 ≡ word 256 (halves 10 (a ∷ b ∷ c ∷ d ∷ [])) + (a / 10 + 65536 * (b / 10 + 65536 * (c / 10 + 65536 * (d / 10)))) * 2559
-unfolding word halves
-digits-word a b c d = omega arith
+tens-word [] = refl
+tens-word (x ∷ xs) = omega (arith, tens-word xs)
 
 -- digits are parts in base ten, as characters: in a word, 48 more in each lane
 digits-map : (k n : ℕ) → digits k n ≡ map (λ (x : ℕ). 48 + x) (parts 10 k n)
@@ -148,11 +156,7 @@ unfolding word parts
 characters8 x = sym (characters 8 x)
 
 -- the bytes of a word
-abbrev Bytes : List ℕ → Type 0
-Bytes [] = Unit {0}
-Bytes (x ∷ xs) = (x < 256) × Bytes xs
-
-bytes-word : (x : ℕ) (xs : List ℕ) → Bytes (x ∷ xs) → bytes (suc (length xs)) (word 256 (x ∷ xs)) ≡ x ∷ xs
+bytes-word : (x : ℕ) (xs : List ℕ) → Below 256 (x ∷ xs) → bytes (suc (length xs)) (word 256 (x ∷ xs)) ≡ x ∷ xs
 unfolding word bytes
 bytes-word x [] h = let e : x + 256 * 0 ≡ x = omega arith in ap (λ (y : ℕ). y ∷ []) e
 bytes-word x (y ∷ ys) h =
@@ -161,29 +165,20 @@ bytes-word x (y ∷ ys) h =
     let hi : (x + 256 * n) / 256 ≡ n = omega (arith, h .0) in
     ap₂ (λ (a b : ℕ). a ∷ bytes (suc (length ys)) b) lo hi ∙ ap (λ (l : List ℕ). x ∷ l) (bytes-word y ys (h .1))
 
-bytes-all : (k : ℕ) (xs : List ℕ) → length xs ≡ suc k → Bytes xs → bytes (suc k) (word 256 xs) ≡ xs
+bytes-all : (k : ℕ) (xs : List ℕ) → length xs ≡ suc k → Below 256 xs → bytes (suc k) (word 256 xs) ≡ xs
 bytes-all k [] e h = absurd (omega (arith, e))
 bytes-all k (x ∷ xs) e h = ap (λ (j : ℕ). bytes j (word 256 (x ∷ xs))) (sym e) ∙ bytes-word x xs h
 
-Bytes-last : (xs : List ℕ) (y : ℕ) → Bytes xs → y < 256 → Bytes (xs ++ (y ∷ []))
-Bytes-last [] y h l = (l, tt)
-Bytes-last (x ∷ xs) y h l = (h .0, Bytes-last xs y (h .1) l)
-
-Bytes-digits : (k n : ℕ) → Bytes (digits k n)
-unfolding digits
-Bytes-digits zero n = tt
-Bytes-digits (suc k) n = Bytes-last (digits k (n / 10)) (48 + n % 10) (Bytes-digits k (n / 10)) (omega arith)
-
-word-lt : (xs : List ℕ) → Bytes xs → word 256 xs < 256 ^ length xs
+word-lt : (xs : List ℕ) → Below 256 xs → word 256 xs < 256 ^ length xs
 unfolding word
 word-lt [] h = omega arith
 word-lt (x ∷ xs) h = omega (arith, h .0, word-lt xs (h .1), pow-suc 256 (length xs))
 
 pub word-digits : (k n : ℕ) → word 256 (digits k n) < 256 ^ k
-word-digits k n = rw (length-digits k n) at (word-lt (digits k n) (Bytes-digits k n))
+word-digits k n = rw (length-digits k n) at (word-lt (digits k n) (digits-below k n))
 
 pub bytes-digits : (k n : ℕ) → bytes (suc k) (word 256 (digits (suc k) n)) ≡ digits (suc k) n
-bytes-digits k n = bytes-all k (digits (suc k) n) (length-digits (suc k) n) (Bytes-digits (suc k) n)
+bytes-digits k n = bytes-all k (digits (suc k) n) (length-digits (suc k) n) (digits-below (suc k) n)
 
 -- what the functions `pair`, `two_pairs` and `four` do
 pair-word : (x : ℕ) → x < 100 → x * 256 - x / 10 * 2559 + 12336 ≡ word 256 (digits 2 x)
@@ -200,27 +195,24 @@ two-pairs-word x l = omega arith
 pub two-pairs-step : (x : ℕ) → x < 10000 → x * 65536 ≡ word 65536 (parts 100 2 x) + x * 5243 / 524288 * 6553599
 two-pairs-step x l = rw (hundredth x l) (two-pairs-word x l)
 
-module _ (x y : ℕ) (e : y ≡ word 65536 (parts 100 2 x)) where
-  y-two-pairs : y ≡ x / 100 % 100 + 65536 * (x % 100)
-  unfolding word parts
-  y-two-pairs = e ∙ omega arith
+-- each of so many numbers of two digits, as two digits
+tens-step : (k x y : ℕ) → y ≡ word 65536 (parts 100 k x)
+    → y * 256 ≡ word 256 (parts 10 (k + k) x) + bitAnd (y * 103 / 1024) (word 65536 (map (λ (z : ℕ). 15) (parts 100 k x))) * 2559
+tens-step k x y e =
+    let xs = parts 100 k x in
+    let q = sym (tenths xs (parts-below 100 k x (omega arith))) ∙ ap (λ (z : ℕ). bitAnd (z * 103 / 1024) (word 65536 (map (λ (z : ℕ). 15) xs))) (sym e) in
+    ap (λ (z : ℕ). z * 256) e ∙ tens-word xs ∙ ap₂ (λ (l : List ℕ) (h : ℕ). word 256 l + h * 2559) (sym (parts-halves 10 k x (omega arith))) q
 
+module _ (x y : ℕ) (e : y ≡ word 65536 (parts 100 2 x)) where
   pub two-pairs-less : y < 6553600
-  two-pairs-less = omega (arith, y-two-pairs)
+  unfolding word parts
+  two-pairs-less = omega (arith, e)
 
   pub four-step : y * 256 ≡ word 256 (parts 10 4 x) + bitAnd (y * 103 / 1024) 983055 * 2559
-  unfolding parts
-  four-step =
-      let a = x / 100 % 100 in
-      let b = x % 100 in
-      ap (λ (z : ℕ). z * 256) y-two-pairs
-      ∙ digits-word2 a b
-      ∙ ap₂ (λ (l : List ℕ) (h : ℕ). word 256 l + h * 2559) (sym (parts-halves 10 2 x (omega arith))) (sym (tenths2 a b (omega arith) (omega arith)) ∙ ap (λ (z : ℕ). bitAnd (z * 103 / 1024) 983055) (sym y-two-pairs))
+  unfolding word parts
+  four-step = tens-step 2 x y e
 
 -- what the functions `fours`, `pairs` and `eight` do
-pub ten-thousandth : (x : ℕ) → x < 100000000 → x * 109951163 / 1099511627776 ≡ x / 10000
-ten-thousandth x l = omega arith
-
 fours-word : (x : ℕ) → x < 100000000 → x / 10000 + (x - x / 10000 * 10000) * 4294967296 ≡ word 4294967296 (parts 10000 2 x)
 unfolding word parts
 fours-word x l = omega arith
@@ -229,38 +221,23 @@ pub fours-step : (x : ℕ) → x < 100000000
     → x * 109951163 / 1099511627776 + (x - x * 109951163 / 1099511627776 * 10000) * 4294967296 ≡ word 4294967296 (parts 10000 2 x)
 fours-step x l = rw (ten-thousandth x l) (fours-word x l)
 
-module _ (x y : ℕ) where
-  module _ (e : y ≡ word 4294967296 (parts 10000 2 x)) where
-    y-fours : y ≡ x / 10000 % 10000 + 4294967296 * (x % 10000)
-    unfolding word parts
-    y-fours = e ∙ omega arith
+module _ (x y : ℕ) (e : y ≡ word 4294967296 (parts 10000 2 x)) where
+  pub fours-less : y < 42949672960000
+  unfolding word parts
+  fours-less = omega (arith, e)
 
-    pub fours-less : y < 42949672960000
-    fours-less = omega (arith, y-fours)
+  pub pairs-step : y * 65536 ≡ word 65536 (parts 100 4 x) + bitAnd (y * 5243 / 524288) 545460846719 * 6553599
+  unfolding word parts
+  pairs-step =
+      let xs = parts 10000 2 x in
+      let q = sym (hundredths xs (parts-below 10000 2 x (omega arith))) ∙ ap (λ (z : ℕ). bitAnd (z * 5243 / 524288) 545460846719) (sym e) in
+      ap (λ (z : ℕ). z * 65536) e ∙ hundreds-word xs ∙ ap₂ (λ (l : List ℕ) (h : ℕ). word 65536 l + h * 6553599) (sym (parts-halves 100 2 x (omega arith))) q
 
-    pub pairs-step : y * 65536 ≡ word 65536 (parts 100 4 x) + bitAnd (y * 5243 / 524288) 545460846719 * 6553599
-    unfolding parts
-    pairs-step =
-        let a = x / 10000 % 10000 in
-        let b = x % 10000 in
-        ap (λ (z : ℕ). z * 65536) y-fours
-        ∙ pairs-word a b
-        ∙ ap₂ (λ (l : List ℕ) (q : ℕ). word 65536 l + q * 6553599) (sym (parts-halves 100 2 x (omega arith))) (sym (hundredths a b (omega arith) (omega arith)) ∙ ap (λ (z : ℕ). bitAnd (z * 5243 / 524288) 545460846719) (sym y-fours))
+module _ (x y : ℕ) (e : y ≡ word 65536 (parts 100 4 x)) where
+  pub pairs-less : y < 28147497671065600
+  unfolding word parts
+  pairs-less = omega (arith, e)
 
-  module _ (e : y ≡ word 65536 (parts 100 4 x)) where
-    y-pairs : y ≡ x / 100 / 100 / 100 % 100 + 65536 * (x / 100 / 100 % 100 + 65536 * (x / 100 % 100 + 65536 * (x % 100)))
-    unfolding word parts
-    y-pairs = e ∙ omega arith
-
-    pub pairs-less : y < 28147497671065600
-    pairs-less = omega (arith, y-pairs)
-
-    pub digits-step : y * 256 ≡ word 256 (parts 10 8 x) + bitAnd (y * 103 / 1024) 4222189076152335 * 2559
-    unfolding parts
-    digits-step =
-        let a = x / 100 / 100 / 100 % 100 in
-        let b = x / 100 / 100 % 100 in
-        let c = x / 100 % 100 in
-        let d = x % 100 in
-        let q = sym (tenths a b c d (omega arith) (omega arith) (omega arith) (omega arith)) ∙ ap (λ (z : ℕ). bitAnd (z * 103 / 1024) 4222189076152335) (sym y-pairs) in
-        ap (λ (z : ℕ). z * 256) y-pairs ∙ digits-word a b c d ∙ ap₂ (λ (l : List ℕ) (h : ℕ). word 256 l + h * 2559) (sym (parts-halves 10 4 x (omega arith))) q
+  pub digits-step : y * 256 ≡ word 256 (parts 10 8 x) + bitAnd (y * 103 / 1024) 4222189076152335 * 2559
+  unfolding word parts
+  digits-step = tens-step 4 x y e

@@ -10,6 +10,6 @@ pub record Ends (old : List ℕ) (end : ℕ) (bytes new : List ℕ) (at : ℕ) :
   pub out : new ≡ splice old at bytes
   pub begins : at + length bytes ≡ end
 
--- how long the small array is: room for 24 digits in front of a point and four decimals, with a sign
+-- how long the small array is: the longest text has 22 bytes, and in 32 there are 24 in front of a point and four decimals, three words
 abbrev pub room : ℕ
 room = 32
