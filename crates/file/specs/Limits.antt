@@ -26,6 +26,13 @@ addendsMax = 128
 abbrev pub literalsMax : ℕ
 literalsMax = 4096
 
+-- document 02, R-4: "a picture section after the literals (at most 64 entries of 24 bytes, padded with blanks"; "up to 24 characters"
+abbrev pub picturesMax : ℕ
+picturesMax = 64
+
+abbrev pub pictureMax : ℕ
+pictureMax = 24
+
 -- D2: "P ≤ 999", so too "first line integer 1 to 999" and, of a next group, "relative 1 to 999"
 abbrev pub pageLinesMax : ℕ
 pageLinesMax = 999

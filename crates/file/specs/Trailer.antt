@@ -1,4 +1,4 @@
--- "Then a 48-byte trailer, found from the file's end": eight starts and counts, then eight settings, the last one the version.
+-- "Then a 48-byte trailer, found from the file's end": a start and a count for each section, then eight settings, the last one the version.
 use Prim.Native.Nat.{ℕ, _+_, _-_, _*_, _≤_}
 use mathlib.Core.List.{List}
 use lib.ListN.{length}

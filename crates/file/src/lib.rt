@@ -4,7 +4,7 @@ ghost use Prim.Native.Nat.{_+_, _*_, _<_, _≤_};
 ghost use lib.Dec.{leb};
 ghost use lib.ListN.{length};
 ghost use Rattle.counts.specs.Below.{allBelow};
-ghost use Rattle.file.specs.Version.{known, sections, settings, trailerSize, entrySize, entryLimit, widest, longest};
+ghost use Rattle.file.specs.Version.{known, hasPictures, sections, settings, trailerSize, itemSize, entrySize, entryLimit, widest, longest};
 ghost use Rattle.file.specs.Number.{num, Reads};
 ghost use Rattle.file.specs.Trailer.{version, HasTrailer, trailer, start, count, setting};
 ghost use Rattle.file.specs.Sections.{sectionEnd, nextStart, sectionOk, ruleD1};
@@ -31,6 +31,11 @@ pub const COUNTERS_MAX: usize = 32;
 pub const ADDENDS_MAX: usize = 128;
 
 pub const LITERALS_MAX: usize = 4096;
+
+pub const PICTURES_MAX: usize = 64;
+
+// The most characters of a picture, and the bytes of its entry.
+pub const PICTURE_MAX: usize = 24;
 
 // The most details, and the most lines of a group.
 pub const DETAILS_MAX: usize = 8;
@@ -67,24 +72,34 @@ pub fn num_at(d: &[u8], at: usize) -> usize
     joined(d[at], d[at + 1]) as usize
 }
 
-// Sections, and the settings behind their starts and counts; of these R, the record length, is the last but the version.
-const SECTIONS: usize = 8;
-
+// The settings behind the starts and counts of the sections; of these R, the record length, is the last but the version.
 const SETTINGS: usize = 8;
 
 pub const RECORD_LENGTH: usize = 6;
 
-// What a version sets. There is one so far, so only the first of these looks at it.
+// What a version sets.
 fn known_version(v: usize) -> bool
     ensures { λ r. ⌜ r ≡ known v ⌝ }
 {
-    v == 1
+    (v == 1) | (v == 2)
 }
 
-fn section_count(v: usize) -> usize
-    ensures { λ r. ⌜ r ≡ sections v ⌝ }
+// Whether there are pictures: a section of them, and the number of one with each item.
+pub fn has_pictures(v: usize) -> bool
+    ensures { λ r. ⌜ r ≡ hasPictures v ⌝ }
 {
-    SECTIONS
+    2 <= v
+}
+
+// Sections without pictures, and with them.
+const SECTIONS: usize = 8;
+
+const SECTIONS_MAX: usize = 9;
+
+fn section_count(v: usize) -> usize
+    ensures { λ r. ⌜ (r ≡ sections v) × ((8 ≤ r) × (r ≤ 9)) ⌝ }
+{
+    if has_pictures(v) { SECTIONS_MAX } else { SECTIONS }
 }
 
 fn trailer_size(v: usize) -> usize
@@ -96,9 +111,13 @@ fn trailer_size(v: usize) -> usize
 // Bytes of a field: the fields are the first section.
 pub const FIELD_SIZE: usize = 6;
 
-const SIZES: [usize; SECTIONS] = [FIELD_SIZE, 2, 12, 8, 12, 8, 6, 1];
+fn item_size(v: usize) -> usize
+    ensures { λ r. ⌜ r ≡ itemSize v ⌝ }
+{
+    if has_pictures(v) { 14 } else { 12 }
+}
 
-const LIMITS: [usize; SECTIONS] = [
+const LIMITS: [usize; SECTIONS_MAX] = [
     FIELDS_MAX,
     CONTROLS_MAX,
     GROUPS_MAX,
@@ -107,14 +126,16 @@ const LIMITS: [usize; SECTIONS] = [
     COUNTERS_MAX,
     ADDENDS_MAX,
     LITERALS_MAX,
+    PICTURES_MAX,
 ];
 
 // Bytes of an entry, and the most entries, of section `k`.
 fn entry_size(v: usize, k: usize) -> usize
     requires { ⌜ k < sections v ⌝ }
-    ensures { λ r. ⌜ (r ≡ entrySize v k) × (r < 16) ⌝ }
+    ensures { λ r. ⌜ (r ≡ entrySize v k) × (r < 32) ⌝ }
 {
-    SIZES[k]
+    let sizes = [FIELD_SIZE, 2, 12, 8, item_size(v), 8, 6, 1, PICTURE_MAX];
+    sizes[k]
 }
 
 fn entry_limit(v: usize, k: usize) -> usize
@@ -142,6 +163,14 @@ pub fn version_of(d: &[u8]) -> usize
     ensures { λ r. ⌜ Reads (version (now (d .entry))) r ⌝ }
 {
     num_at(d, d.len() - 2)
+}
+
+// How many sections there are.
+fn sections_of(d: &[u8]) -> usize
+    requires { ⌜ 2 ≤ length (now d) ⌝ }
+    ensures { λ r. ⌜ (r ≡ sections (version (now (d .entry)))) × ((8 ≤ r) × (r ≤ 9)) ⌝ }
+{
+    section_count(version_of(d))
 }
 
 // Where the trailer starts.
@@ -172,7 +201,7 @@ pub fn setting_of(d: &[u8], j: usize) -> usize
     requires { ⌜ HasTrailer (now d) × (j < settings) ⌝ }
     ensures { λ r. ⌜ Reads (setting (now (d .entry)) j) r ⌝ }
 {
-    let all = section_count(version_of(d));
+    let all = sections_of(d);
     num_at(d, trailer_at(d) + 4 * all + 2 * j)
 }
 
@@ -189,7 +218,7 @@ fn next_start(d: &[u8], k: usize) -> usize
     requires { ⌜ HasTrailer (now d) × (k < sections (version (now d))) ⌝ }
     ensures { λ r. ⌜ r ≡ nextStart (now (d .entry)) k ⌝ }
 {
-    let last = section_count(version_of(d)) - 1;
+    let last = sections_of(d) - 1;
     if k < last {
         start_of(d, k + 1)
     } else {
@@ -208,7 +237,7 @@ fn sections_ok(d: &[u8]) -> bool
     requires { ⌜ HasTrailer (now d) ⌝ }
     ensures { λ r. ⌜ r ≡ allBelow (sections (version (now (d .entry)))) (sectionOk (now (d .entry))) ⌝ }
 {
-    let n = section_count(version_of(d));
+    let n = sections_of(d);
     let mut ok = true;
     let mut k = 0;
     while k < n {

@@ -29,13 +29,17 @@ addendSection = 6
 abbrev pub literalSection : ℕ
 literalSection = 7
 
--- the table has all of them but the literal bytes
+-- document 02, R-4: "a picture section after the literals"
+abbrev pub pictureSection : ℕ
+pictureSection = 8
+
+-- the table has all of them but the literal bytes and the pictures, which are characters
 abbrev pub tableSections : ℕ
 tableSections = 7
 
--- numbers of an entry of section k in the table
+-- numbers of an entry of section k in the table, of any version
 abbrev pub words : ℕ → ℕ
-words k = getD (3 ∷ 1 ∷ 6 ∷ 4 ∷ 6 ∷ 4 ∷ 3 ∷ []) k 0
+words k = getD (3 ∷ 1 ∷ 6 ∷ 4 ∷ 7 ∷ 4 ∷ 3 ∷ []) k 0
 
 -- start and entry count of section k, as a head has them
 abbrev pub startOf : Head → ℕ → ℕ

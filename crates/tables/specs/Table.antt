@@ -1,7 +1,10 @@
--- What the entries of the table are: the numbers of every section but the literals, by name.
+-- What the entries of the table are: the numbers of every section but the literals and the pictures, by name.
 use Prim.Native.Nat.{ℕ, _+_, _*_}
+use mathlib.Core.Bool.{cond}
 use mathlib.Core.List.{List}
+use lib.Dec.{eqb}
 use lib.ListN.{getD}
+use Rattle.file.specs.Limits.{pictureMax}
 use Rattle.tables.specs.declared.Head.{Head}
 use Rattle.tables.specs.declared.Item.{Item}
 use Rattle.tables.specs.Section.{fieldSection, controlSection, groupSection, lineSection, itemSection, counterSection, addendSection, words, entryAt, entry}
@@ -87,19 +90,31 @@ itemDecimals h t i = item h t i 4
 abbrev pub itemFlag : Head → List ℕ → ℕ → ℕ
 itemFlag h t i = item h t i 5
 
--- the six numbers at a place, and item i whole
-abbrev pub itemAt : List ℕ → ℕ → Item
-itemAt t at = record {
+-- document 02, R-4: "a last number on each item, its index there or 65535 for none"
+abbrev pub itemPicture : Head → List ℕ → ℕ → ℕ
+itemPicture h t i = item h t i 6
+
+abbrev pub noPicture : ℕ
+noPicture = 65535
+
+-- where the picture of a number stands in the characters of a description, which are its literals and behind them its pictures; none for none
+abbrev pub picturePlace : Head → ℕ → ℕ
+picturePlace h p = cond (eqb p noPicture) noPicture (h .literals + pictureMax * p)
+
+-- the seven numbers at a place, and item i whole; of its picture it has the place
+abbrev pub itemAt : Head → List ℕ → ℕ → Item
+itemAt h t at = record {
   column = getD t at 0;
   width = getD t (at + 1) 0;
   kind = getD t (at + 2) 0;
   index = getD t (at + 3) 0;
   decimals = getD t (at + 4) 0;
   flag = getD t (at + 5) 0;
+  picture = picturePlace h (getD t (at + 6) 0);
 }
 
 abbrev pub itemOf : Head → List ℕ → ℕ → Item
-itemOf h t i = itemAt t (h .istart + words itemSection * i)
+itemOf h t i = itemAt h t (h .istart + words itemSection * i)
 
 -- "Counter: group, reset level, first addend, addend count."
 abbrev pub counter : Head → List ℕ → ℕ → ℕ → ℕ

@@ -4,9 +4,9 @@ ghost use Prim.Native.Nat.{_+_, _*_, _≤_, _<_};
 ghost use lib.ListN.{length, getD};
 ghost use Rattle.file.specs.Number.{Reads};
 ghost use Rattle.tables.specs.Section.{tableSections, words, startOf, countOf, entry};
-ghost use Rattle.tables.specs.Table.{field, control, group, line, item, itemAt, itemOf, counter, addend};
+ghost use Rattle.tables.specs.Table.{field, control, group, line, item, picturePlace, itemAt, itemOf, counter, addend};
 
-// The sections in the file's order; all but the last are in the table.
+// The sections in the file's order; all but the last two are in the table.
 pub const FIELDS: usize = 0;
 
 pub const CONTROLS: usize = 1;
@@ -23,10 +23,12 @@ pub const ADDENDS: usize = 6;
 
 pub const LITERALS: usize = 7;
 
+pub const PICTURES: usize = 8;
+
 // Sections of the table, and the numbers of an entry of each.
 const SECTIONS: usize = 7;
 
-const WORDS: [usize; SECTIONS] = [3, 1, 6, 4, 6, 4, 3];
+const WORDS: [usize; SECTIONS] = [3, 1, 6, 4, 7, 4, 3];
 
 // Kinds of fields, and FINAL.
 pub const FIELD_TEXT: usize = 0;
@@ -77,6 +79,9 @@ pub const SOURCE_LINE: usize = 3;
 
 pub const SOURCE_SUM: usize = 4;
 
+// The picture number of an item that has none.
+pub const NO_PICTURE: u16 = 65535;
+
 // Kinds of addends.
 pub const ADDEND_FIELD: usize = 0;
 
@@ -98,6 +103,7 @@ pub struct Head {
     pub counters: u16,
     pub addends: u16,
     pub literals: u16,
+    pub pictures: u16,
     pub page: u16,
     pub top: u16,
     pub fd: u16,
@@ -107,7 +113,8 @@ pub struct Head {
     pub reclen: u16,
 }
 
-// An item, whole.
+// An item, whole. Of its picture it has the place in the characters of the description, its literals and then its pictures,
+// or NO_PICTURE.
 pub struct Item {
     pub column: u16,
     pub width: u16,
@@ -115,6 +122,7 @@ pub struct Item {
     pub index: u16,
     pub decimals: u16,
     pub flag: u16,
+    pub picture: u32,
 }
 
 pub fn wide(x: u16) -> usize
@@ -228,10 +236,21 @@ pub fn item_num(t: &[u16], h: Head, i: usize, j: usize) -> usize
     entry_num(t, h, ITEMS, i, j)
 }
 
-// The six numbers at a place, none of them past the end.
-fn item_inside(t: &[u16], at: usize) -> Item
-    requires { ⌜ at + 6 ≤ length (now t) ⌝ }
-    ensures { λ r. ⌜ r ≡ itemAt (now (t .entry)) at ⌝ }
+// Where picture `p` stands in the characters.
+fn picture_place(h: Head, p: u16) -> u32
+    ensures { λ r. ⌜ r ≡ picturePlace h p ⌝ }
+{
+    if p == NO_PICTURE {
+        NO_PICTURE as u32
+    } else {
+        h.literals as u32 + file::PICTURE_MAX as u32 * p as u32
+    }
+}
+
+// The seven numbers at a place, none of them past the end.
+fn item_inside(t: &[u16], h: Head, at: usize) -> Item
+    requires { ⌜ at + 7 ≤ length (now t) ⌝ }
+    ensures { λ r. ⌜ r ≡ itemAt h (now (t .entry)) at ⌝ }
 {
     Item {
         column: t[at],
@@ -240,13 +259,14 @@ fn item_inside(t: &[u16], at: usize) -> Item
         index: t[at + 3],
         decimals: t[at + 4],
         flag: t[at + 5],
+        picture: picture_place(h, t[at + 6]),
     }
 }
 
-// The six numbers at a place, some of them past the end.
-fn item_past(t: &[u16], at: usize) -> Item
+// The seven numbers at a place, some of them past the end.
+fn item_past(t: &[u16], h: Head, at: usize) -> Item
     requires { ⌜ at < 16777216 ⌝ }
-    ensures { λ r. ⌜ r ≡ itemAt (now (t .entry)) at ⌝ }
+    ensures { λ r. ⌜ r ≡ itemAt h (now (t .entry)) at ⌝ }
 {
     Item {
         column: short_at(t, at),
@@ -255,19 +275,20 @@ fn item_past(t: &[u16], at: usize) -> Item
         index: short_at(t, at + 3),
         decimals: short_at(t, at + 4),
         flag: short_at(t, at + 5),
+        picture: picture_place(h, short_at(t, at + 6)),
     }
 }
 
-// Item `i`. One test does for its six numbers where all are there.
+// Item `i`. One test does for its seven numbers where all are there.
 pub fn item_of(t: &[u16], h: Head, i: usize) -> Item
     requires { ⌜ i < 1048576 ⌝ }
     ensures { λ r. ⌜ r ≡ itemOf h (now (t .entry)) i ⌝ }
 {
     let at = wide(h.istart) + words_of(ITEMS) * i;
-    if at + 6 <= t.len() {
-        item_inside(t, at)
+    if at + 7 <= t.len() {
+        item_inside(t, h, at)
     } else {
-        item_past(t, at)
+        item_past(t, h, at)
     }
 }
 

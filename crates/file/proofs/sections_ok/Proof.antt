@@ -19,4 +19,4 @@ abbrev μ-loop : tie.MeasureT-loop
 pub sections-ok-spec : {M : Type 1} → statement M
 sections-ok-spec =
     tie.close
-    (tie.spec Inv-loop μ-loop (λ c κs. search needs) (λ c κs. search needs) (λ c. all-start _ _) (λ c κs. omega arith) (λ c. omega arith) (λ c. omega arith) (λ c. all-step _ (c .before .before .loop .inv) (c .before .loop-test .taken) (c .section-ok .ensures)) (λ c. all-end _ (c .before .loop .inv) (c .loop-test .left) (c .before .before .section-count .ensures)))
+    (tie.spec Inv-loop μ-loop (λ c κs. search needs) (λ c. all-start _ _) (λ c κs. omega arith) (λ c. omega arith) (λ c. omega arith) (λ c. all-step _ (c .before .before .loop .inv) (c .before .loop-test .taken) (c .section-ok .ensures)) (λ c. all-end _ (c .before .loop .inv) (c .loop-test .left) (c .before .before .sections-of .ensures .0)))

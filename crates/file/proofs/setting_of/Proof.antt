@@ -7,11 +7,11 @@ use Rattle.file.proofs.setting_of.Tie as tie
 returns : tie.Need-returns
 returns c =
     record {
-      is = rw (c .num-at .ensures .is, c .before .trailer-at .ensures, c .before .before .section-count .ensures);
+      is = rw (c .num-at .ensures .is, c .before .trailer-at .ensures, c .before .before .sections-of .ensures .0);
       small = c .num-at .ensures .small;
     }
 
 pub setting-of-spec : {M : Type 1} → statement M
 setting-of-spec =
     tie.close
-    (tie.spec (λ c κs. search needs) (λ c κs. search needs) (λ c κs. search needs) (λ c. search needs) (λ c. search needs) (λ c. search needs) (λ c. search needs) (λ c κs. search needs) returns)
+    (tie.spec (λ c κs. search needs) (λ c κs. search needs) (λ c. search needs) (λ c. search needs) (λ c. search needs) (λ c. search needs) (λ c κs. search needs) returns)

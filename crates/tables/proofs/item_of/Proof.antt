@@ -1,4 +1,4 @@
--- `tables::item_of` meets its contract: six numbers at the item's place.
+-- `tables::item_of` meets its contract: seven numbers at the item's place.
 -- Assumes nothing.
 use Prim.Native.Nat.{_*_, _≤_}
 use native.Mathlib.Omega.{arith}
