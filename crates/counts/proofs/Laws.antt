@@ -6,18 +6,18 @@
 --     search-some, search-none  whether it found one
 --     first-at, first-upto      the index found passes, and none before it does
 --     fold-next   one turn of a fold; fold-keeps   what every turn keeps
---     list-at, list-filled      an entry of a list made of f, and a list that has f at each index
+--     list-at, list-filled      an entry of a list made of f, and a list that has f at each index; list-next   one entry more
 --     join-at     an entry of a join, by the lengths of its lists
 --     join-list   the parts of one list, joined
 -- Assumes nothing.
 use mathlib.Core.Path.{_≡_, refl, sym, _∙_, ap}
-use mathlib.Core.List.{List, _∷_, _++_}
+use mathlib.Core.List.{List, [], _∷_, _++_}
 use lib.ListN.{length, getD, length-append, List·getD-append}
 use lib.Seq.{ext-getD, getD-append-add}
 use mathlib.Core.Logic.{⊎-elim}
 use mathlib.Core.Bool.{Bool, true, false, cond, _&&_, _||_, false≢true}
 use Prim.Native.Nat.{ℕ, zero, suc, _+_, _*_, _≤_, _<_}
-use native.Mathlib.Nat.{le-of-suc-le-suc, not-suc-le-zero, eq-or-lt-of-le, le-antisymm, zero-add, suc-add, mul-suc}
+use native.Mathlib.Nat.{le-of-suc-le-suc, not-suc-le-zero, eq-or-lt-of-le, le-antisymm, zero-add, add-zero, suc-add, mul-suc}
 use native.Mathlib.Numerals.{add-one}
 use native.Mathlib.Omega.{arith}
 use lib.Dec.{ltb}
@@ -179,10 +179,19 @@ list-filled x f n t l h =
     ext-getD x t (listBelow n f) (l ∙ sym (length-listBelow n f))
     (λ k b. let b' : k < n = omega arith in h k b' ∙ sym (list-at x n f k b'))
 
-list-append : {A : Type 0} (a b : ℕ) (g : ℕ → A) → listBelow (a + b) g ≡ listBelow a g ++ listBelow b (λ j. g (a + j))
+-- made of the same
+pub list-same : {A : Type 0} (x : A) (n : ℕ) (f g : ℕ → A) → ((k : ℕ) → k < n → f k ≡ g k) → listBelow n f ≡ listBelow n g
+list-same x n f g h = list-filled x g n (listBelow n f) (length-listBelow n f) (λ k b. list-at x n f k b ∙ h k b)
+
+pub list-append : {A : Type 0} (a b : ℕ) (g : ℕ → A) → listBelow (a + b) g ≡ listBelow a g ++ listBelow b (λ j. g (a + j))
 unfolding listBelow
 list-append zero b g = simp zero-add refl
 list-append (suc a) b g = simp suc-add (ap (_∷_ (g 0)) (list-append a b (λ k. g (suc k))))
+
+-- one more
+pub list-next : {A : Type 0} (n : ℕ) (f : ℕ → A) → listBelow n f ++ (f n ∷ []) ≡ listBelow (n + 1) f
+unfolding listBelow
+list-next n f = ap (λ (x : ℕ). listBelow n f ++ (f x ∷ [])) (sym (add-zero n)) ∙ sym (list-append n 1 f)
 
 -- lists joined, of which list i has w i entries
 

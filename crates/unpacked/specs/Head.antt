@@ -2,16 +2,18 @@
 use Prim.Native.Nat.{ℕ, _+_, _*_}
 use mathlib.Core.Bool.{cond}
 use mathlib.Core.List.{List}
-use Rattle.file.specs.Trailer.{count, setting}
+use Rattle.file.specs.Limits.{pictureMax}
+use Rattle.file.specs.Version.{hasPictures}
+use Rattle.file.specs.Trailer.{version, count, setting}
 use Rattle.file.specs.Sections.{ruleD1}
 use Rattle.tables.specs.declared.Head.{Head}
 use Rattle.unpacked.specs.declared.Counts.{Counts}
 use Rattle.unpacked.specs.declared.Settings.{Settings}
 use Rattle.unpacked.specs.declared.Opened.{Opened}
 use Rattle.unpacked.specs.declared.Opened.the-variants.{With, Broken}
-use Rattle.tables.specs.Section.{fieldSection, controlSection, groupSection, lineSection, itemSection, counterSection, addendSection, literalSection, words}
+use Rattle.tables.specs.Section.{fieldSection, controlSection, groupSection, lineSection, itemSection, counterSection, addendSection, literalSection, pictureSection, words}
 
--- the "entry count of each section", as the trailer has it
+-- the "entry count of each section", as the trailer has it; version 1 has no pictures
 abbrev pub countsOf : List ℕ → Counts
 countsOf d = record {
   fields = count d fieldSection;
@@ -22,6 +24,7 @@ countsOf d = record {
   counters = count d counterSection;
   addends = count d addendSection;
   literals = count d literalSection;
+  pictures = cond (hasPictures (version d)) (count d pictureSection) 0;
 }
 
 -- "then P, H, FD, LD, FT, line width W, record length R", as the trailer has them
@@ -59,6 +62,7 @@ headWith n p =
       counters = n .counters;
       addends = n .addends;
       literals = n .literals;
+      pictures = n .pictures;
       page = p .page;
       top = p .top;
       fd = p .fd;
@@ -78,3 +82,7 @@ opening d = cond (ruleD1 d) (With (headOf d)) Broken
 -- how many numbers the table under a head has: the addends end it
 abbrev pub numbersOf : Head → ℕ
 numbersOf h = h .astart + words addendSection * h .addends
+
+-- and how many characters it has: the literal bytes, and 24 of each picture
+abbrev pub charactersOf : Head → ℕ
+charactersOf h = h .literals + pictureMax * h .pictures

@@ -1,14 +1,18 @@
-// The tables made from a description's bytes: its head, and the list of the numbers of every section but the literals.
+// The tables made from a description's bytes: its head, and the list of the numbers of every section but the literals and the
+// pictures. Head and table are laid out alike in every version.
 ghost use mathlib.Core.Path.{_≡_};
 ghost use mathlib.Core.Bool.{true};
 ghost use Prim.Native.Nat.{_+_, _*_, _≤_, _<_};
 ghost use lib.ListN.{length};
-ghost use Rattle.file.specs.Version.{sections, settings};
-ghost use Rattle.file.specs.Trailer.{version, HasTrailer, count, setting};
+ghost use Rattle.counts.specs.Below.{joinBelow};
+ghost use Rattle.splice.specs.Splice.{splice};
+ghost use Rattle.file.specs.Version.{settings};
+ghost use Rattle.file.specs.Trailer.{HasTrailer, count, setting};
 ghost use Rattle.file.specs.Sections.{ruleD1};
-ghost use Rattle.tables.specs.Section.{tableSections, words};
-ghost use Rattle.unpacked.specs.Head.{countsOf, settingsOf, headWith, headOf, opening, numbersOf};
-ghost use Rattle.unpacked.specs.Table.{numbersMax, numbers, table};
+ghost use Rattle.tables.specs.Section.{itemSection, counterSection, pictureSection, tableSections, words};
+ghost use Rattle.unpacked.specs.Head.{countsOf, settingsOf, headWith, headOf, opening, numbersOf, charactersOf};
+ghost use Rattle.unpacked.specs.Entry.{sectionNumbers, numbersFrom, plainItem};
+ghost use Rattle.unpacked.specs.Table.{tableStart, numbersMax, numbers, table, frontNumbers, restNumbers};
 use file::Rule;
 use tables::Head;
 
@@ -17,7 +21,7 @@ pub const NUMBERS_MAX: usize = 3 * file::FIELDS_MAX
     + file::CONTROLS_MAX
     + 6 * file::GROUPS_MAX
     + 4 * file::LINES_MAX
-    + 6 * file::ITEMS_MAX
+    + 7 * file::ITEMS_MAX
     + 4 * file::COUNTERS_MAX
     + 3 * file::ADDENDS_MAX;
 
@@ -34,6 +38,7 @@ pub struct Counts {
     pub counters: u16,
     pub addends: u16,
     pub literals: u16,
+    pub pictures: u16,
 }
 
 pub struct Settings {
@@ -60,11 +65,24 @@ fn start_behind(k: usize, at: u16, n: u16) -> u16
     (tables::wide(at) + tables::words_of(k) * tables::wide(n)) as u16
 }
 
+// The entry count of a section that every version has.
 fn count16(d: &[u8], k: usize) -> u16
-    requires { ⌜ HasTrailer (now d) × (k < sections (version (now d))) ⌝ }
+    requires { ⌜ HasTrailer (now d) × (k < pictureSection) ⌝ }
     ensures { λ r. ⌜ r ≡ count (now (d .entry)) k ⌝ }
 {
     file::count_of(d, k) as u16
+}
+
+// How many pictures: version 1 has no section of them.
+fn pictures_of(d: &[u8]) -> u16
+    requires { ⌜ HasTrailer (now d) ⌝ }
+    ensures { λ r. ⌜ r ≡ countsOf (now (d .entry)) .pictures ⌝ }
+{
+    if file::has_pictures(file::version_of(d)) {
+        file::count_of(d, tables::PICTURES) as u16
+    } else {
+        0
+    }
 }
 
 fn setting16(d: &[u8], j: usize) -> u16
@@ -87,6 +105,7 @@ fn counts_of(d: &[u8]) -> Counts
         counters: count16(d, tables::COUNTERS),
         addends: count16(d, tables::ADDENDS),
         literals: count16(d, tables::LITERALS),
+        pictures: pictures_of(d),
     }
 }
 
@@ -130,6 +149,7 @@ fn head_with(n: Counts, p: Settings) -> Head
         counters: n.counters,
         addends: n.addends,
         literals: n.literals,
+        pictures: n.pictures,
         page: p.page,
         top: p.top,
         fd: p.fd,
@@ -166,16 +186,86 @@ pub fn numbers_of(h: Head) -> usize
     tables::wide(h.astart) + tables::words_of(tables::ADDENDS) * tables::wide(h.addends)
 }
 
-// The numbers of a description that passes D1, put into a table that has just room for them: in version 1 they are the file
-// up to the literals. The bounds are known here, so that this becomes a copy of whole blocks.
-pub fn unpack(d: &[u8], t: &mut [u16])
-    requires { ⌜ (ruleD1 (now d) ≡ true) × (length (now t) ≡ numbers (now d)) ⌝ }
-    ensures { λ _. ⌜ now (t .exit) ≡ table (now (d .entry)) ⌝ }
+// How many characters it has: the literals, and the pictures behind them.
+pub fn characters_of(h: Head) -> usize
+    ensures { λ r. ⌜ r ≡ charactersOf h ⌝ }
 {
-    let n = t.len();
+    tables::wide(h.literals) + file::PICTURE_MAX * tables::wide(h.pictures)
+}
+
+// Puts `n` numbers of the file, from byte `from` on, into a table. The bounds are known here, so that this becomes a copy of
+// whole blocks.
+fn put_numbers(d: &[u8], from: usize, n: usize, at: usize, t: &mut [u16])
+    requires { ⌜ (from + 2 * n ≤ length (now d)) × (at + n ≤ length (now t)) ⌝ }
+    ensures { λ _. ⌜ now (t .exit) ≡ splice (now (t .entry)) at (numbersFrom (now (d .entry)) from n) ⌝ }
+{
     let mut i = 0;
     while i < n {
-        t[i] = file::joined(d[2 * i], d[2 * i + 1]);
+        t[at + i] = file::joined(d[from + 2 * i], d[from + 2 * i + 1]);
         i += 1;
     }
+}
+
+// Puts an item of version 1: its six numbers, and that it has no picture.
+fn put_plain_item(d: &[u8], from: usize, at: usize, t: &mut [u16])
+    requires { ⌜ (from + 12 ≤ length (now d)) × (at + 7 ≤ length (now t)) ⌝ }
+    ensures { λ _. ⌜ now (t .exit) ≡ splice (now (t .entry)) at (plainItem (now (d .entry)) from) ⌝ }
+{
+    put_numbers(d, from, 6, at, t);
+    t[at + 6] = tables::NO_PICTURE;
+}
+
+// Puts `n` items of version 1.
+fn put_plain_items(d: &[u8], from: usize, n: usize, at: usize, t: &mut [u16])
+    requires { ⌜ (from + 12 * n ≤ length (now d)) × (at + 7 * n ≤ length (now t)) ⌝ }
+    ensures { λ _. ⌜ now (t .exit) ≡ splice (now (t .entry)) at (joinBelow n (λ i. plainItem (now (d .entry)) (from + 12 * i))) ⌝ }
+{
+    let mut i = 0;
+    while i < n {
+        put_plain_item(d, from + 12 * i, at + 7 * i, t);
+        i += 1;
+    }
+}
+
+// Puts the items of a description that passes D1, by its version.
+fn put_items(d: &[u8], n: usize, at: usize, t: &mut [u16])
+    requires { ⌜ (ruleD1 (now d) ≡ true) × ((n ≡ count (now d) itemSection) × (at + 7 * n ≤ length (now t))) ⌝ }
+    ensures { λ _. ⌜ now (t .exit) ≡ splice (now (t .entry)) at (sectionNumbers (now (d .entry)) itemSection) ⌝ }
+{
+    let from = file::start_of(d, tables::ITEMS);
+    if file::has_pictures(file::version_of(d)) {
+        put_numbers(d, from, 7 * n, at, t);
+    } else {
+        put_plain_items(d, from, n, at, t);
+    }
+}
+
+// The numbers of a description that passes D1, put into a table that has just room for them: what stands in front of the items,
+// the items, and what stands behind them.
+pub fn unpack(d: &[u8], h: Head, t: &mut [u16])
+    requires { ⌜ (ruleD1 (now d) ≡ true) × ((h ≡ headOf (now d)) × (length (now t) ≡ numbers (now d))) ⌝ }
+    ensures { λ _. ⌜ now (t .exit) ≡ table (now (d .entry)) ⌝ }
+{
+    put_front(d, h, t);
+    put_rest(d, h, t);
+}
+
+// Puts what stands in front of the items, and the items.
+fn put_front(d: &[u8], h: Head, t: &mut [u16])
+    requires { ⌜ (ruleD1 (now d) ≡ true) × ((h ≡ headOf (now d)) × (length (now t) ≡ numbers (now d))) ⌝ }
+    ensures { λ _. ⌜ now (t .exit) ≡ splice (now (t .entry)) 0 (frontNumbers (now (d .entry))) ⌝ }
+{
+    let items = tables::wide(h.istart);
+    put_numbers(d, 0, items, 0, t);
+    put_items(d, tables::wide(h.items), items, t);
+}
+
+// Puts what stands behind them.
+fn put_rest(d: &[u8], h: Head, t: &mut [u16])
+    requires { ⌜ (ruleD1 (now d) ≡ true) × ((h ≡ headOf (now d)) × (length (now t) ≡ numbers (now d))) ⌝ }
+    ensures { λ _. ⌜ now (t .exit) ≡ splice (now (t .entry)) (tableStart (now (d .entry)) counterSection) (restNumbers (now (d .entry))) ⌝ }
+{
+    let at = tables::wide(h.kstart);
+    let n = t.len() - at;
+    put_numbers(d, file::start_of(d, tables::COUNTERS), n, at, t);
 }

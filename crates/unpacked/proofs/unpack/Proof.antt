@@ -1,62 +1,32 @@
--- `unpacked::unpack` meets its contract. The invariant: the numbers passed stand in the table.
+-- `unpacked::unpack` meets its contract: the two parts fill the table.
 -- Assumes nothing.
-use Prim.Native.Nat.{ℕ, _*_, _≤_, _<_, _-_}
-use mathlib.Core.Path.{_≡_, sym, _∙_}
+use Prim.Native.Nat.{ℕ, _+_, _≤_}
+use mathlib.Core.Path.{_≡_, sym, ap, _∙_}
 use native.Mathlib.Omega.{arith}
 use borrow.Author.Needs.{needs}
-use borrow.Author.Count.{below-none}
-use lib.ListN.{length, getD, length-set}
-use Rattle.counts.proofs.Laws.{list-filled}
-use Rattle.file.specs.Number.{num}
-use Rattle.unpacked.specs.Table.{numbers}
-use Rattle.counts.proofs.Fill.{fill-next}
-use Rattle.unpacked.proofs.Says.{inside, block}
+use lib.ListN.{length}
+use Rattle.splice.proofs.Laws.{splice-then, splice-whole, length-splice}
+use Rattle.tables.specs.Section.{counterSection}
+use Rattle.unpacked.specs.Table.{tableStart, table, frontNumbers, restNumbers}
+use Rattle.unpacked.proofs.Says.{front-rest, length-front, length-table, counters-upto}
 use Rattle.unpacked.proofs.unpack.Statement.{statement}
 use Rattle.unpacked.proofs.unpack.Tie as tie
 
-abbrev Inv-loop : tie.InvT-loop
-Inv-loop d t₀ n i₀ t i =
-    (i ≤ n) × ((length t ≡ n) × ((k : ℕ) → k < i → getD t k 0 ≡ num d (2 * k)))
-
-abbrev μ-loop : tie.MeasureT-loop
-μ-loop d t₀ n i₀ t i = n - i
-
-loop-again : tie.Need-loop-again Inv-loop μ-loop
-unfolding num
-loop-again c =
-    let a = c .before .before .before .before .loop in
-    let d = c .before .before .before .before .before .before .before .args .d .now in (
-      omega arith,
-      (
-        length-set (a .t) (a .i) _ ∙ a .inv .1 .0,
-        fill-next 0 (a .i) (a .t) _ (λ k. num d (2 * k)) (omega arith) (c .joined .ensures) (a .inv .1 .1),
-      ),
-    )
-
-returns : tie.Need-returns Inv-loop μ-loop
+returns : tie.Need-returns
 returns c =
-    let a = c .before .loop in
-    let d = c .before .before .before .before .args .d .now in
-    let p = c .before .before .before .before .pre in
-    list-filled 0 (λ k. num d (2 * k)) (numbers d) _ (a .inv .1 .0 ∙ p .1) (λ k b. a .inv .1 .1 k (omega arith)) ∙ sym (block d (p .0))
+    let s = c .before .before .before .before .before .before .before .before .before .before in
+    let d = s .args .d .now in
+    let t = s .args .t .now in
+    let e : tableStart d counterSection ≡ 0 + length (frontNumbers d) = omega (arith, length-front d) in
+    splice-then t 0 (frontNumbers d) (tableStart d counterSection) (restNumbers d) (table d) (c .before .before .before .before .before .before .put-front .ensures) (c .before .before .put-rest .ensures) e (front-rest d) (omega arith)
+    ∙ splice-whole t (table d) (length-table d ∙ sym (s .pre .1 .1))
 
 pub unpack-spec : {M : Type 1} → statement M
 unpack-spec =
     tie.close
     (tie.spec
-    Inv-loop
-    μ-loop
-    (λ c. (search needs, (search needs, below-none _)))
-    (λ c. let p = inside _ (c .before .before .before .before .pre .0) in omega arith)
-    (λ c. let p = inside _ (c .before .before .before .before .before .pre .0) in omega arith)
-    (λ c. let p = inside _ (c .before .before .before .before .before .pre .0) in omega arith)
-    (λ c. let p = inside _ (c .before .before .before .before .before .pre .0) in omega arith)
-    (λ c. let p = inside _ (c .before .before .before .before .before .before .pre .0) in omega arith)
     (λ c κs. search needs)
-    (λ c. search needs)
-    (λ c. omega arith)
-    (λ c. omega arith)
-    (λ c. omega arith)
-    loop-again
+    (λ c κs. let s = c .before .before .before .before .before .before .before in
+    (s .pre .0, (s .pre .1 .0, ap length (c .before .before .before .put-front .ensures) ∙ length-splice (s .args .t .now) 0 _ (omega (arith, length-front (s .args .d .now), counters-upto (s .args .d .now), s .pre .1 .1)) ∙ s .pre .1 .1)))
     (λ c. search needs)
     returns)
