@@ -115,7 +115,7 @@ module _ (h : Head) (t : List ℕ) where
 
     -- item i read whole has the column of item i
     column-whole : (i : ℕ) → itemOf h t i .column ≡ itemColumn h t i
-    column-whole i = let z : h .istart + 6 * i ≡ h .istart + 6 * i + 0 = omega arith in ap (λ (k : ℕ). getD t k 0) z
+    column-whole i = let z : h .istart + 7 * i ≡ h .istart + 7 * i + 0 = omega arith in ap (λ (k : ℕ). getD t k 0) z
 
     module _ (e : ruleD7 h t lits ≡ true) where
       item-ok : (g k m : ℕ) → g < h .groups → k < lineCount h t g → m < itemCount h t (firstLine h t g + k) → itemOk h t g (firstLine h t g + k) m ≡ true

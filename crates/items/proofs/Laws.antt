@@ -15,7 +15,7 @@ use Rattle.items.specs.Items.{freeColumn, placeOk, itemOk}
 
 module _ (h : Head) (t : List ℕ) (i : ℕ) {x : Item} (e : x ≡ itemOf h t i) where
   pub column-of : {n : ℕ} → n ≡ x .column → n ≡ itemColumn h t i
-  column-of q = let z : h .istart + 6 * i ≡ h .istart + 6 * i + 0 = omega arith in q ∙ ap (λ (r : Item). r .column) e ∙ ap (λ (k : ℕ). getD t k 0) z
+  column-of q = let z : h .istart + 7 * i ≡ h .istart + 7 * i + 0 = omega arith in q ∙ ap (λ (r : Item). r .column) e ∙ ap (λ (k : ℕ). getD t k 0) z
 
   -- any other number of it
   pub read-of : (f : Item → ℕ) {n : ℕ} → n ≡ f x → n ≡ f (itemOf h t i)

@@ -7,10 +7,6 @@ use lib.ListN.{length, getD, take}
 use Rattle.counts.specs.Below.{bit, allBelow, firstBelow}
 use Rattle.picture.specs.Characters.{nine, comma, point, letterC, letterR, minus, blank, isPlace}
 
--- "up to 24 characters"; "entries of 24 bytes, padded with blanks"
-abbrev pub pictureMax : ℕ
-pictureMax = 24
-
 -- An entry: the picture's characters are its bytes in front of the first blank.
 
 abbrev pub blankAt : List ℕ → ℕ → Bool

@@ -7,9 +7,6 @@ ghost use Rattle.counts.specs.Below.{allBelow};
 ghost use Rattle.picture.specs.Characters.{isPlace};
 ghost use Rattle.picture.specs.Picture.{paddedAt, lengthIn, charactersIn, signOk, fractionOk, standsOk, lastPlace, endOk, wholeOk, pictureOk, pictureDecimals};
 
-// How many bytes an entry has: as many as the longest picture has characters.
-pub const PICTURE_MAX: usize = 24;
-
 // How many characters the picture in an entry has.
 pub fn length_in(e: &[u8]) -> usize
     ensures { λ r. ⌜ (r ≡ lengthIn (now (e .entry))) × (r ≤ length (now (e .entry))) ⌝ }

@@ -97,9 +97,16 @@ itemPicture h t i = item h t i 6
 abbrev pub noPicture : ℕ
 noPicture = 65535
 
--- where the picture of a number stands in the characters of a description, which are its literals and behind them its pictures; none for none
+-- the characters of a description are its literals and, behind them, its pictures: how many, and where picture p starts
+abbrev pub charactersOf : Head → ℕ
+charactersOf h = h .literals + pictureMax * h .pictures
+
+abbrev pub pictureStart : Head → ℕ → ℕ
+pictureStart h p = h .literals + pictureMax * p
+
+-- the place of an item's picture, or none for none
 abbrev pub picturePlace : Head → ℕ → ℕ
-picturePlace h p = cond (eqb p noPicture) noPicture (h .literals + pictureMax * p)
+picturePlace h p = cond (eqb p noPicture) noPicture (pictureStart h p)
 
 -- the seven numbers at a place, and item i whole; of its picture it has the place
 abbrev pub itemAt : Head → List ℕ → ℕ → Item

@@ -20,7 +20,8 @@ use Rattle.file.specs.Sections.{ruleD1}
 use Rattle.file.proofs.Versions.{sections-with, sections-without, sections-least, entry-front, entry-counter, entry-addend, entry-literal, entry-picture, item-with, item-without}
 use Rattle.file.proofs.D1.{counted, first, next, last, long}
 use Rattle.tables.specs.Section.{itemSection, counterSection, addendSection, literalSection, pictureSection, tableSections, words, startOf, entry}
-use Rattle.unpacked.specs.Head.{headOf, numbersOf, charactersOf}
+use Rattle.tables.specs.Table.{charactersOf}
+use Rattle.unpacked.specs.Head.{headOf, numbersOf}
 use Rattle.unpacked.specs.Table.{tableStart, numbers, table, frontNumbers, restNumbers, numbersMax}
 use Rattle.unpacked.specs.Entry.{inBytes, entryNumbers, sectionNumbers, numbersFrom, plainItem}
 

@@ -2,7 +2,6 @@
 use Prim.Native.Nat.{ℕ, _+_, _*_}
 use mathlib.Core.Bool.{cond}
 use mathlib.Core.List.{List}
-use Rattle.file.specs.Limits.{pictureMax}
 use Rattle.file.specs.Version.{hasPictures}
 use Rattle.file.specs.Trailer.{version, count, setting}
 use Rattle.file.specs.Sections.{ruleD1}
@@ -82,7 +81,3 @@ opening d = cond (ruleD1 d) (With (headOf d)) Broken
 -- how many numbers the table under a head has: the addends end it
 abbrev pub numbersOf : Head → ℕ
 numbersOf h = h .astart + words addendSection * h .addends
-
--- and how many characters it has: the literal bytes, and 24 of each picture
-abbrev pub charactersOf : Head → ℕ
-charactersOf h = h .literals + pictureMax * h .pictures

@@ -6,7 +6,8 @@ use Rattle.counts.specs.Below.{sumBelow, joinBelow}
 use Rattle.file.specs.Limits.{fieldsMax, controlsMax, groupsMax, linesMax, itemsMax, countersMax, addendsMax}
 use Rattle.file.specs.Trailer.{start, count}
 use Rattle.tables.specs.Section.{fieldSection, controlSection, groupSection, lineSection, itemSection, counterSection, addendSection, literalSection, tableSections, words}
-use Rattle.unpacked.specs.Head.{headOf, charactersOf}
+use Rattle.tables.specs.Table.{charactersOf}
+use Rattle.unpacked.specs.Head.{headOf}
 use Rattle.unpacked.specs.Entry.{sectionNumbers}
 
 -- where section k starts in the table of a description: behind the entries of the sections before it
