@@ -78,7 +78,7 @@ module _ (h : Head) (t : List ℕ) where
   }
 
   -- ---- items
-  module _ (lits : List ℕ) where
+  module _ (chars : List ℕ) where
     -- a source by its kind
     literal-in : (g i : ℕ) → sourceOk h t g i ≡ true → itemKind h t i ≡ 0 → itemIndex h t i + itemWidth h t i ≤ h .literals
     unfolding sourceOk
@@ -117,7 +117,7 @@ module _ (h : Head) (t : List ℕ) where
     column-whole : (i : ℕ) → itemOf h t i .column ≡ itemColumn h t i
     column-whole i = let z : h .istart + 7 * i ≡ h .istart + 7 * i + 0 = omega arith in ap (λ (k : ℕ). getD t k 0) z
 
-    module _ (e : ruleD7 h t lits ≡ true) where
+    module _ (e : ruleD7 h t chars ≡ true) where
       item-ok : (g k m : ℕ) → g < h .groups → k < lineCount h t g → m < itemCount h t (firstLine h t g + k) → itemOk h t g (firstLine h t g + k) m ≡ true
       unfolding ruleD7 groupItemsOk lineItemsOk
       item-ok g k m a b c =
@@ -125,9 +125,9 @@ module _ (h : Head) (t : List ℕ) where
           let y = all-at (ownLineOk h t g) k (lineCount h t g) b x in
           all-at (itemOk h t g (firstLine h t g + k)) m (itemCount h t (firstLine h t g + k)) c y
 
-      literals-there : h .literals ≤ length lits
+      literals-there : h .literals ≤ length chars
       unfolding ruleD7
-      literals-there = printable-there (h .literals) lits (search (and-l, and-r))
+      literals-there = printable-there (h .literals) chars (search (and-l, and-r))
 
       item-wide : (g k m : ℕ) → g < h .groups → k < lineCount h t g → m < itemCount h t (firstLine h t g + k) → 1 ≤ itemWidth h t (firstItem h t (firstLine h t g + k) + m)
       unfolding itemOk
@@ -152,5 +152,5 @@ module _ (h : Head) (t : List ℕ) where
             decimals = leb-true _ _ (search (and-l, and-r) depth 8);
           }
 
-      pub items-in : h .width ≤ lineMax → ItemsIn h t lits
+      pub items-in : h .width ≤ lineMax → ItemsIn h t chars
       items-in w = record { sized = record { width = w; literals = literals-there }; each = item-in }

@@ -10,7 +10,7 @@ use Rattle.line_text.specs.Facts.{ItemsIn}
 use Rattle.shape.specs.Facts.{Small}
 use Rattle.pagination.specs.Facts.{PageFits}
 
-pub record Accepted (h : Head) (t lits : List ℕ) : Type 0 where
+pub record Accepted (h : Head) (t chars : List ℕ) : Type 0 where
   -- D1: "At most .. 8 controls, 32 groups, .. 32 counters"
   pub controls8 : h .controls ≤ controlsMax
   pub groups32 : h .groups ≤ groupsMax
@@ -26,7 +26,7 @@ pub record Accepted (h : Head) (t lits : List ℕ) : Type 0 where
   pub fieldsIn : FieldsIn h t
   pub controlsIn : ControlsIn h t
   pub countersIn : CountersIn h t
-  pub itemsIn : ItemsIn h t lits
+  pub itemsIn : ItemsIn h t chars
   -- D2, D5, D6: lines are small, and every group stands in its part of the page
   pub small : Small h t
   pub pageFits : PageFits h t

@@ -9,7 +9,7 @@ use borrow.Author.Tests.{lt-leb}
 use lib.ListN.{length, take}
 use Rattle.tables.specs.declared.Head.{Head}
 use Rattle.unpacked.specs.Head.{headOf}
-use Rattle.unpacked.specs.Table.{table, literals}
+use Rattle.unpacked.specs.Table.{table, characters}
 use Rattle.description.specs.declared.Checked.the-variants.{Accepted, Broken}
 use Rattle.description.specs.Check.{checked}
 use Rattle.state.specs.declared.State.{State}
@@ -49,5 +49,5 @@ module _ (d rows : List ℕ) (size : ℕ) (s : State) (out : List ℕ) where
       (through-halts (rowUnder d 0) rows size s out (verdict.Description k) (row-broken d k e 0 s (take size rows) out) refl l m) q (omega arith) (omega arith)
 
   -- ---- the records on tables
-  pub comes-on : {h : Head} {t lits : List ℕ} → checked d ≡ Accepted → h ≡ headOf d → t ≡ table d → lits ≡ literals d → (r : Run) (new : List ℕ) → Comes (through (rowOn h t lits 0) rows size s out) r new rows → Comes (generateAll d rows size s out) r new rows
-  comes-on e eh et el r new x = rw (through-same (rowUnder d 0) (rowOn (headOf d) (table d) (literals d) 0) (row-on d e 0) rows size s out) (rw (eh, et, el) at x)
+  pub comes-on : {h : Head} {t chars : List ℕ} → checked d ≡ Accepted → h ≡ headOf d → t ≡ table d → chars ≡ characters d → (r : Run) (new : List ℕ) → Comes (through (rowOn h t chars 0) rows size s out) r new rows → Comes (generateAll d rows size s out) r new rows
+  comes-on e eh et el r new x = rw (through-same (rowUnder d 0) (rowOn (headOf d) (table d) (characters d) 0) (row-on d e 0) rows size s out) (rw (eh, et, el) at x)

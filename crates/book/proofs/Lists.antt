@@ -12,7 +12,7 @@ use lib.Dec.{eqb}
 use Rattle.counts.proofs.Laws.{by-cond}
 use Rattle.tables.specs.declared.Head.{Head}
 use Rattle.unpacked.specs.Head.{headOf}
-use Rattle.unpacked.specs.Table.{table, literals}
+use Rattle.unpacked.specs.Table.{table, characters}
 use Rattle.description.specs.declared.Checked.the-variants.{Accepted}
 use Rattle.description.specs.Check.{checked}
 use Rattle.accepted.specs.Accepted as facts
@@ -33,7 +33,7 @@ use Rattle.book.proofs.Moves.{Led, Follow, Moves}
 use Rattle.book.proofs.Step.{Ok}
 use Rattle.book.proofs.Calls.{Tracks, call-ok, fresh-tracks}
 
-module _ (d : List ℕ) (accepts : checked d ≡ Accepted) (A : facts.Accepted (headOf d) (table d) (literals d)) where
+module _ (d : List ℕ) (accepts : checked d ≡ Accepted) (A : facts.Accepted (headOf d) (table d) (characters d)) where
   abbrev h : Head
   h = headOf d
 

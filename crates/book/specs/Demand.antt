@@ -7,7 +7,7 @@ use mathlib.Core.Bool.{Bool, false}
 use lib.ListN.{take}
 use Rattle.tables.specs.declared.Head.{Head}
 use Rattle.unpacked.specs.Head.{headOf}
-use Rattle.unpacked.specs.Table.{table, literals}
+use Rattle.unpacked.specs.Table.{table, characters}
 use Rattle.printed.specs.Printed.{noPrefix}
 use Rattle.due_text.specs.Bytes.{Reading, reading}
 use Rattle.place.specs.Place.{lastPage}
@@ -44,8 +44,8 @@ module _ (d : List ℕ) where
   -- what the call's items read, by demand 2's definition
   abbrev pub reads : State → Call → Reading
   reads s initiate = reading [] [] [] [] false noPrefix
-  reads s (generate detail row) = rowWork h t (literals d) s detail row .inputs
-  reads s terminate = lastWork h t (literals d) s .inputs
+  reads s (generate detail row) = rowWork h t (characters d) s detail row .inputs
+  reads s terminate = lastWork h t (characters d) s .inputs
 
   pub record Done : Type 0 where
     pub call : Call

@@ -46,15 +46,15 @@ pub struct Task {
 fn print_turn<'a>(
     t: &[u16],
     h: Head,
-    lits: &[u8],
+    chars: &[u8],
     kept: &'a [u8],
     row: &'a [u8],
     sums: &[i64],
     x: Body,
     out: &mut [u8],
 ) -> Cursor
-    requires { ⌜ Ready h (now t) (x .turn) (x .pos) × Room h (now t) (reading (now lits) (now kept) (now row) (now sums) (x .flag) (x .prefix)) (placeGroup h (now t) (x .turn) (x .pos) .dues) (x .at) (now out) ⌝ }
-    ensures { λ r. ⌜ Printed h (now (t .entry)) (reading (now (lits .entry)) (now (kept .entry)) (now (row .entry)) (now (sums .entry)) (x .flag) (x .prefix)) (placeGroup h (now (t .entry)) (x .turn) (x .pos)) (now (out .entry)) (x .at) (now (out .exit)) r ⌝ }
+    requires { ⌜ Ready h (now t) (x .turn) (x .pos) × Room h (now t) (reading (now chars) (now kept) (now row) (now sums) (x .flag) (x .prefix)) (placeGroup h (now t) (x .turn) (x .pos) .dues) (x .at) (now out) ⌝ }
+    ensures { λ r. ⌜ Printed h (now (t .entry)) (reading (now (chars .entry)) (now (kept .entry)) (now (row .entry)) (now (sums .entry)) (x .flag) (x .prefix)) (placeGroup h (now (t .entry)) (x .turn) (x .pos)) (now (out .entry)) (x .at) (now (out .exit)) r ⌝ }
 {
     let turn = x.turn;
     let from = x.pos;
@@ -72,14 +72,14 @@ fn print_turn<'a>(
         view,
         at: x.at,
     };
-    let a = due_text::print_changes(t, h, lits, kept, row, sums, changes, out);
+    let a = due_text::print_changes(t, h, chars, kept, row, sums, changes, out);
     let to = r.to;
     let start = Start {
         group: turn.group,
         at: tables::wide(r.at),
     };
     let group = due_text::print_of(view, to.page, start, a);
-    let at = due_text::print_due(t, h, lits, kept, row, sums, group, out);
+    let at = due_text::print_due(t, h, chars, kept, row, sums, group, out);
     Cursor { at, pos: to }
 }
 
@@ -87,15 +87,15 @@ fn print_turn<'a>(
 fn print_turns<'a>(
     t: &[u16],
     h: Head,
-    lits: &[u8],
+    chars: &[u8],
     kept: &'a [u8],
     row: &'a [u8],
     sums: &[i64],
     x: Task,
     out: &mut [u8],
 ) -> Cursor
-    requires { ⌜ Called h (now t) (x .plan) (x .pos) × Room h (now t) (reading (now lits) (now kept) (now row) (now sums) (x .flag) (x .prefix)) (placeAll h (now t) (turns h (now t) (x .plan)) (x .pos) .dues) (x .at) (now out) ⌝ }
-    ensures { λ r. ⌜ Printed h (now (t .entry)) (reading (now (lits .entry)) (now (kept .entry)) (now (row .entry)) (now (sums .entry)) (x .flag) (x .prefix)) (placeAll h (now (t .entry)) (turns h (now (t .entry)) (x .plan)) (x .pos)) (now (out .entry)) (x .at) (now (out .exit)) r ⌝ }
+    requires { ⌜ Called h (now t) (x .plan) (x .pos) × Room h (now t) (reading (now chars) (now kept) (now row) (now sums) (x .flag) (x .prefix)) (placeAll h (now t) (turns h (now t) (x .plan)) (x .pos) .dues) (x .at) (now out) ⌝ }
+    ensures { λ r. ⌜ Printed h (now (t .entry)) (reading (now (chars .entry)) (now (kept .entry)) (now (row .entry)) (now (sums .entry)) (x .flag) (x .prefix)) (placeAll h (now (t .entry)) (turns h (now (t .entry)) (x .plan)) (x .pos)) (now (out .entry)) (x .at) (now (out .exit)) r ⌝ }
 {
     let p = x.plan;
     let prefix = x.prefix;
@@ -116,7 +116,7 @@ fn print_turns<'a>(
             prefix,
             at: c.at,
         };
-        c = print_turn(t, h, lits, kept, row, sums, body, out);
+        c = print_turn(t, h, chars, kept, row, sums, body, out);
         k += 1;
     }
     c
@@ -126,15 +126,15 @@ fn print_turns<'a>(
 fn print_opening<'a>(
     t: &[u16],
     h: Head,
-    lits: &[u8],
+    chars: &[u8],
     kept: &'a [u8],
     row: &'a [u8],
     sums: &[i64],
     x: Task,
     out: &mut [u8],
 ) -> Cursor
-    requires { ⌜ Small h (now t) × Room h (now t) (reading (now lits) (now kept) (now row) (now sums) (x .flag) (x .prefix)) (opened h (now t) (x .plan) (x .pos) .dues) (x .at) (now out) ⌝ }
-    ensures { λ r. ⌜ Printed h (now (t .entry)) (reading (now (lits .entry)) (now (kept .entry)) (now (row .entry)) (now (sums .entry)) (x .flag) (x .prefix)) (opened h (now (t .entry)) (x .plan) (x .pos)) (now (out .entry)) (x .at) (now (out .exit)) r ⌝ }
+    requires { ⌜ Small h (now t) × Room h (now t) (reading (now chars) (now kept) (now row) (now sums) (x .flag) (x .prefix)) (opened h (now t) (x .plan) (x .pos) .dues) (x .at) (now out) ⌝ }
+    ensures { λ r. ⌜ Printed h (now (t .entry)) (reading (now (chars .entry)) (now (kept .entry)) (now (row .entry)) (now (sums .entry)) (x .flag) (x .prefix)) (opened h (now (t .entry)) (x .plan) (x .pos)) (now (out .entry)) (x .at) (now (out .exit)) r ⌝ }
 {
     let p = x.plan;
     let prefix = x.prefix;
@@ -156,7 +156,7 @@ fn print_opening<'a>(
             view,
             at: x.at,
         };
-        let at = due_text::print_pair(t, h, lits, kept, row, sums, pair, out);
+        let at = due_text::print_pair(t, h, chars, kept, row, sums, pair, out);
         return Cursor { at, pos };
     }
     let pos = x.pos;
@@ -167,15 +167,15 @@ fn print_opening<'a>(
 fn print_closing<'a>(
     t: &[u16],
     h: Head,
-    lits: &[u8],
+    chars: &[u8],
     kept: &'a [u8],
     row: &'a [u8],
     sums: &[i64],
     x: Task,
     out: &mut [u8],
 ) -> Cursor
-    requires { ⌜ Small h (now t) × ((x .pos .page ≤ 1000100) × Room h (now t) (reading (now lits) (now kept) (now row) (now sums) (x .flag) (x .prefix)) (closed h (now t) (x .plan) (x .pos) .dues) (x .at) (now out)) ⌝ }
-    ensures { λ r. ⌜ Printed h (now (t .entry)) (reading (now (lits .entry)) (now (kept .entry)) (now (row .entry)) (now (sums .entry)) (x .flag) (x .prefix)) (closed h (now (t .entry)) (x .plan) (x .pos)) (now (out .entry)) (x .at) (now (out .exit)) r ⌝ }
+    requires { ⌜ Small h (now t) × ((x .pos .page ≤ 1000100) × Room h (now t) (reading (now chars) (now kept) (now row) (now sums) (x .flag) (x .prefix)) (closed h (now t) (x .plan) (x .pos) .dues) (x .at) (now out)) ⌝ }
+    ensures { λ r. ⌜ Printed h (now (t .entry)) (reading (now (chars .entry)) (now (kept .entry)) (now (row .entry)) (now (sums .entry)) (x .flag) (x .prefix)) (closed h (now (t .entry)) (x .plan) (x .pos)) (now (out .entry)) (x .at) (now (out .exit)) r ⌝ }
 {
     let p = x.plan;
     let from = x.pos;
@@ -198,7 +198,7 @@ fn print_closing<'a>(
             view,
             at: x.at,
         };
-        let at = due_text::print_pair(t, h, lits, kept, row, sums, pair, out);
+        let at = due_text::print_pair(t, h, chars, kept, row, sums, pair, out);
         return Cursor { at, pos };
     }
     Cursor {
@@ -227,19 +227,19 @@ fn moved(x: Task, c: Cursor) -> Task
 pub fn print_call<'a>(
     t: &[u16],
     h: Head,
-    lits: &[u8],
+    chars: &[u8],
     kept: &'a [u8],
     row: &'a [u8],
     sums: &[i64],
     x: Task,
     out: &mut [u8],
 ) -> Cursor
-    requires { ⌜ Called h (now t) (x .plan) (x .pos) × Room h (now t) (reading (now lits) (now kept) (now row) (now sums) (x .flag) (x .prefix)) (layoutSpec h (now t) (x .plan) (x .pos) .dues) (x .at) (now out) ⌝ }
-    ensures { λ r. ⌜ Printed h (now (t .entry)) (reading (now (lits .entry)) (now (kept .entry)) (now (row .entry)) (now (sums .entry)) (x .flag) (x .prefix)) (layoutSpec h (now (t .entry)) (x .plan) (x .pos)) (now (out .entry)) (x .at) (now (out .exit)) r ⌝ }
+    requires { ⌜ Called h (now t) (x .plan) (x .pos) × Room h (now t) (reading (now chars) (now kept) (now row) (now sums) (x .flag) (x .prefix)) (layoutSpec h (now t) (x .plan) (x .pos) .dues) (x .at) (now out) ⌝ }
+    ensures { λ r. ⌜ Printed h (now (t .entry)) (reading (now (chars .entry)) (now (kept .entry)) (now (row .entry)) (now (sums .entry)) (x .flag) (x .prefix)) (layoutSpec h (now (t .entry)) (x .plan) (x .pos)) (now (out .entry)) (x .at) (now (out .exit)) r ⌝ }
 {
-    let a = print_opening(t, h, lits, kept, row, sums, x, out);
+    let a = print_opening(t, h, chars, kept, row, sums, x, out);
     let body = moved(x, a);
-    let b = print_turns(t, h, lits, kept, row, sums, body, out);
+    let b = print_turns(t, h, chars, kept, row, sums, body, out);
     let end = moved(x, b);
-    print_closing(t, h, lits, kept, row, sums, end, out)
+    print_closing(t, h, chars, kept, row, sums, end, out)
 }

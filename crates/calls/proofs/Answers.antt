@@ -19,30 +19,30 @@ use Rattle.work.specs.Work.{settled}
 use Rattle.work.specs.Rows.{firstWork, laterWork, lastWork}
 use Rattle.calls.specs.Calls.{tried, callOn}
 
-module _ (h : Head) (t lits : List ℕ) (s : State) (out : List ℕ) {r : Answer} {new : List ℕ} where
+module _ (h : Head) (t chars : List ℕ) (s : State) (out : List ℕ) {r : Answer} {new : List ℕ} where
   module _ (a : Asked) (row : List ℕ) where
-    pub call-refused : {v : Verdict} → tried h t s a row ≡ Refused v → r ≡ refusal s v → new ≡ out → Returns (callOn h t lits s a row out) r new
+    pub call-refused : {v : Verdict} → tried h t s a row ≡ Refused v → r ≡ refusal s v → new ≡ out → Returns (callOn h t chars s a row out) r new
     unfolding callOn
     call-refused e q o = rw e (record { answerIs = q; outIs = o })
 
     module _ (e : tried h t s a row ≡ Passed) where
-      pub call-begun : a ≡ Initiate → r ≡ accepted (freshAt started) → new ≡ out → Returns (callOn h t lits s a row out) r new
+      pub call-begun : a ≡ Initiate → r ≡ accepted (freshAt started) → new ≡ out → Returns (callOn h t chars s a row out) r new
       unfolding callOn
       call-begun i q o = rw (e, i) (record { answerIs = q; outIs = o })
 
-      pub call-first : {detail : ℕ} → a ≡ Generate detail → s .phase ≡ started → Returns (settled h t s (firstWork h t lits s detail row) out) r new → Returns (callOn h t lits s a row out) r new
+      pub call-first : {detail : ℕ} → a ≡ Generate detail → s .phase ≡ started → Returns (settled h t s (firstWork h t chars s detail row) out) r new → Returns (callOn h t chars s a row out) r new
       unfolding callOn
       call-first i p x = rw (e, i, eq-eqb (s .phase) started p) x
 
-      pub call-later : {detail : ℕ} → a ≡ Generate detail → (s .phase ≡ started → ⊥) → Returns (settled h t s (laterWork h t lits s detail row) out) r new → Returns (callOn h t lits s a row out) r new
+      pub call-later : {detail : ℕ} → a ≡ Generate detail → (s .phase ≡ started → ⊥) → Returns (settled h t s (laterWork h t chars s detail row) out) r new → Returns (callOn h t chars s a row out) r new
       unfolding callOn
       call-later i p x = rw (e, i, ne-eqb (s .phase) started p) x
 
-      pub call-ended : a ≡ Terminate → s .phase ≡ started → r ≡ accepted (freshAt idle) → new ≡ out → Returns (callOn h t lits s a row out) r new
+      pub call-ended : a ≡ Terminate → s .phase ≡ started → r ≡ accepted (freshAt idle) → new ≡ out → Returns (callOn h t chars s a row out) r new
       unfolding callOn
       call-ended i p q o = rw (e, i, eq-eqb (s .phase) started p) (record { answerIs = q; outIs = o })
 
-      pub call-last : a ≡ Terminate → (s .phase ≡ started → ⊥) → Returns (settled h t s (lastWork h t lits s) out) r new → Returns (callOn h t lits s a row out) r new
+      pub call-last : a ≡ Terminate → (s .phase ≡ started → ⊥) → Returns (settled h t s (lastWork h t chars s) out) r new → Returns (callOn h t chars s a row out) r new
       unfolding callOn
       call-last i p x = rw (e, i, ne-eqb (s .phase) started p) x
 

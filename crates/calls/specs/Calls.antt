@@ -35,9 +35,9 @@ ended out = record { answer = accepted (freshAt idle); out = out }
 
 -- the work, by what is asked
 abbrev pub done : Head → List ℕ → List ℕ → State → Asked → List ℕ → List ℕ → Result
-done h t lits s Initiate row out = begun out
-done h t lits s (Generate detail) row out = settled h t s (rowWork h t lits s detail row) out
-done h t lits s Terminate row out = cond (eqb (s .phase) started) (ended out) (settled h t s (lastWork h t lits s) out)
+done h t chars s Initiate row out = begun out
+done h t chars s (Generate detail) row out = settled h t s (rowWork h t chars s detail row) out
+done h t chars s Terminate row out = cond (eqb (s .phase) started) (ended out) (settled h t s (lastWork h t chars s) out)
 
 -- it is done where no test refuses
 abbrev pub unless : State → List ℕ → Result → Tried → Result
@@ -45,4 +45,4 @@ unless s out r Passed = r
 unless s out r (Refused v) = refuse s out v
 
 unfoldable pub callOn : Head → List ℕ → List ℕ → State → Asked → List ℕ → List ℕ → Result
-callOn h t lits s a row out = unless s out (done h t lits s a row out) (tried h t s a row)
+callOn h t chars s a row out = unless s out (done h t chars s a row out) (tried h t s a row)

@@ -32,14 +32,14 @@ pub fn tried(t: &[u16], h: Head, ok: bool, phase: u8, asked: Asked, rec: &[u8]) 
 pub fn call_on(
     t: &[u16],
     h: Head,
-    lits: &[u8],
+    chars: &[u8],
     s: State,
     asked: Asked,
     rec: &[u8],
     out: &mut [u8],
 ) -> Answer
-    requires { ⌜ Accepted h (now t) (now lits) ⌝ }
-    ensures { λ r. ⌜ Returns (callOn h (now (t .entry)) (now (lits .entry)) s asked (now (rec .entry)) (now (out .entry))) r (now (out .exit)) ⌝ }
+    requires { ⌜ Accepted h (now t) (now chars) ⌝ }
+    ensures { λ r. ⌜ Returns (callOn h (now (t .entry)) (now (chars .entry)) s asked (now (rec .entry)) (now (out .entry))) r (now (out .exit)) ⌝ }
 {
     let ok = state_rules::state_ok(t, h, s);
     let tests = tried(t, h, ok, s.phase, asked, rec);
@@ -49,16 +49,16 @@ pub fn call_on(
             Asked::Initiate => answer::accepted(State::at_phase(State::STARTED)),
             Asked::Generate(detail) => {
                 if s.phase == State::STARTED {
-                    work::first_row(t, h, lits, s, detail, rec, out)
+                    work::first_row(t, h, chars, s, detail, rec, out)
                 } else {
-                    work::later_row(t, h, lits, s, detail, rec, out)
+                    work::later_row(t, h, chars, s, detail, rec, out)
                 }
             }
             Asked::Terminate => {
                 if s.phase == State::STARTED {
                     answer::accepted(State::fresh())
                 } else {
-                    work::last_groups(t, h, lits, s, out)
+                    work::last_groups(t, h, chars, s, out)
                 }
             }
         },

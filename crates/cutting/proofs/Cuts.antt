@@ -10,7 +10,7 @@ use lib.ListN.{length, drop, length-append}
 use Rattle.counts.proofs.Laws.{by-test}
 use Rattle.tables.specs.declared.Head.{Head}
 use Rattle.unpacked.specs.Head.{headOf}
-use Rattle.unpacked.specs.Table.{table, literals}
+use Rattle.unpacked.specs.Table.{table, characters}
 use Rattle.description.specs.declared.Checked.the-variants as checks
 use Rattle.description.specs.Check.{checked}
 use Rattle.accepted.specs.Accepted as facts
@@ -29,7 +29,7 @@ use Rattle.cutting.specs.Cut.{Piece, chunks, printedBy, Cut, cut}
 use Rattle.cutting.specs.Claims.{SizedChunks, Roomy}
 use Rattle.cutting.proofs.Feeds.{Tidy, given, courseOf, Ready, runOf, run-room, length-held, Went, went, taken-all, fed-course}
 
-module _ (d : List ℕ) (accepts : checked d ≡ checks.Accepted) (A : facts.Accepted (headOf d) (table d) (literals d)) where
+module _ (d : List ℕ) (accepts : checked d ≡ checks.Accepted) (A : facts.Accepted (headOf d) (table d) (characters d)) where
   abbrev h : Head
   h = headOf d
 
@@ -91,7 +91,7 @@ module _ (d : List ℕ) (accepts : checked d ≡ checks.Accepted) (A : facts.Acc
       unfolding came
       goes-on =
           joins room ∙ rw a
-          (ap₂ (λ (k : ℕ) (b : List ℕ). behind (printedBy r) (course (rowOf h t (literals d) k) (h .reclen) (next .state) (b ++ chunks ps))) (sym (W .detail)) (taken-all d accepts A f R (p .chunk) (p .out) z a))
+          (ap₂ (λ (k : ℕ) (b : List ℕ). behind (printedBy r) (course (rowOf h t (characters d) k) (h .reclen) (next .state) (b ++ chunks ps))) (sym (W .detail)) (taken-all d accepts A f R (p .chunk) (p .out) z a))
 
       cut-on : cut d f (p ∷ ps) ≡ record { feeder = cut d next ps .feeder; verdict = cut d next ps .verdict; printed = printedBy r ++ cut d next ps .printed; left = cut d next ps .left }
       unfolding cut

@@ -14,7 +14,7 @@ use Rattle.counts.proofs.Laws.{by-test, by-cond}
 use Rattle.splice.specs.Splice.{splice}
 use Rattle.tables.specs.declared.Head.{Head}
 use Rattle.unpacked.specs.Head.{headOf}
-use Rattle.unpacked.specs.Table.{table, literals}
+use Rattle.unpacked.specs.Table.{table, characters}
 use Rattle.description.specs.declared.Checked.the-variants as checks
 use Rattle.description.specs.Check.{checked}
 use Rattle.accepted.specs.Accepted as facts
@@ -58,7 +58,7 @@ tidy-holding s detail rest = ap (holding s detail) (sym (unfinished-holding s de
 pub tidy-same : (f g : Feeder) → Tidy f → Tidy g → f .state ≡ g .state → f .detail ≡ g .detail → unfinished f ≡ unfinished g → f ≡ g
 tidy-same f g x y s k u = x ∙ ap₂ (λ (z : State) (n : ℕ). holding z n (unfinished f)) s k ∙ ap (holding (g .state) (g .detail)) u ∙ sym y
 
-module _ (d : List ℕ) (accepts : checked d ≡ checks.Accepted) (A : facts.Accepted (headOf d) (table d) (literals d)) where
+module _ (d : List ℕ) (accepts : checked d ≡ checks.Accepted) (A : facts.Accepted (headOf d) (table d) (characters d)) where
   abbrev pub h : Head
   h = headOf d
 
@@ -66,7 +66,7 @@ module _ (d : List ℕ) (accepts : checked d ≡ checks.Accepted) (A : facts.Acc
   t = table d
 
   abbrev pub given : Feeder → Given
-  given f = rowOf h t (literals d) (f .detail)
+  given f = rowOf h t (characters d) (f .detail)
 
   -- what a row after the other comes to, from the feeder's state on
   abbrev pub courseOf : Feeder → List ℕ → Course
@@ -74,7 +74,7 @@ module _ (d : List ℕ) (accepts : checked d ≡ checks.Accepted) (A : facts.Acc
 
   -- ---- a feeder that passes the tests
   pub record Ready (f : Feeder) : Type 0 where
-    pub going : Going h t (literals d) A (f .state)
+    pub going : Going h t (characters d) A (f .state)
     pub detail : detailTried h t (f .detail) ≡ Passed
     pub held : f .held < h .reclen
     pub long : length (f .tail) ≡ keptSize
@@ -99,30 +99,30 @@ module _ (d : List ℕ) (accepts : checked d ≡ checks.Accepted) (A : facts.Acc
 
   pub row-is : (f : Feeder) (s : State) (row out : List ℕ) → rowUnder d (f .detail) s row out ≡ putInto s out (given f s row)
   unfolding report.call
-  row-is f s row out = rw accepts (row-put h t (literals d) A (f .detail) s row out)
+  row-is f s row out = rw accepts (row-put h t (characters d) A (f .detail) s row out)
 
   -- ---- the run of a feed
   module _ (f : Feeder) (R : Ready f) (bytes out : List ℕ) where
     abbrev pub runOf : Ran
     runOf = through (rowUnder d (f .detail)) (joined f bytes) (h .reclen) (f .state) out
 
-    pub run-covers : Covers (given f) (h .reclen) (A .record1) (row-ample h t (literals d) A (f .detail)) (rowUnder d (f .detail)) (row-is f) (joined f bytes) (begun (f .state) out) runOf
-    run-covers = through-covers (given f) (h .reclen) (A .record1) (row-ample h t (literals d) A (f .detail)) (rowUnder d (f .detail)) (row-is f) (joined f bytes) (f .state) out
+    pub run-covers : Covers (given f) (h .reclen) (A .record1) (row-ample h t (characters d) A (f .detail)) (rowUnder d (f .detail)) (row-is f) (joined f bytes) (begun (f .state) out) runOf
+    run-covers = through-covers (given f) (h .reclen) (A .record1) (row-ample h t (characters d) A (f .detail)) (rowUnder d (f .detail)) (row-is f) (joined f bytes) (f .state) out
 
     pub run-course : Roomy (Call (runOf .run .verdict))
         → courseOf f (joined f bytes) ≡ record { verdict = runOf .run .verdict; state = runOf .run .state; lines = take (runOf .run .count) (runOf .out); left = drop (runOf .run .done) (joined f bytes) }
-    run-course = through-course (given f) (h .reclen) (A .record1) (row-ample h t (literals d) A (f .detail)) (rowUnder d (f .detail)) (row-is f) (joined f bytes) (f .state) out
+    run-course = through-course (given f) (h .reclen) (A .record1) (row-ample h t (characters d) A (f .detail)) (rowUnder d (f .detail)) (row-is f) (joined f bytes) (f .state) out
 
     pub run-then : courseOf f (joined f bytes) ≡ behind (take (runOf .run .count) (runOf .out)) (course (given f) (h .reclen) (runOf .run .state) (drop (runOf .run .done) (joined f bytes)))
-    run-then = done-then (given f) (h .reclen) (A .record1) (row-ample h t (literals d) A (f .detail)) (rowUnder d (f .detail)) (row-is f) (joined f bytes) (f .state) out
+    run-then = done-then (given f) (h .reclen) (A .record1) (row-ample h t (characters d) A (f .detail)) (rowUnder d (f .detail)) (row-is f) (joined f bytes) (f .state) out
 
     pub run-room : length (courseOf f (joined f bytes) .lines) ≤ length out → Roomy (Call (runOf .run .verdict))
-    run-room = through-room (given f) (h .reclen) (A .record1) (row-ample h t (literals d) A (f .detail)) (rowUnder d (f .detail)) (row-is f) (joined f bytes) (f .state) out
+    run-room = through-room (given f) (h .reclen) (A .record1) (row-ample h t (characters d) A (f .detail)) (rowUnder d (f .detail)) (row-is f) (joined f bytes) (f .state) out
 
-    run-going : Going h t (literals d) A (runOf .run .state)
+    run-going : Going h t (characters d) A (runOf .run .state)
     run-going =
         let c = run-covers in
-        rw (c .along) at (course-keeps (given f) (h .reclen) (A .record1) (Going h t (literals d) A) (row-going h t (literals d) A (f .detail)) (f .state) (c .part) (R .going))
+        rw (c .along) at (course-keeps (given f) (h .reclen) (A .record1) (Going h t (characters d) A) (row-going h t (characters d) A (f .detail)) (f .state) (c .part) (R .going))
 
     run-short : accepted (runOf .run .verdict) ≡ true → length (drop (runOf .run .done) (joined f bytes)) < h .reclen
     run-short e =
@@ -144,7 +144,7 @@ module _ (d : List ℕ) (accepts : checked d ≡ checks.Accepted) (A : facts.Acc
   unfolding unfinished
   unfinished-none f e = rw e refl
 
-  ready-holding : (f : Feeder) → Ready f → (s : State) → Going h t (literals d) A s → (rest : List ℕ) → length rest < h .reclen → Ready (holding s (f .detail) rest)
+  ready-holding : (f : Feeder) → Ready f → (s : State) → Going h t (characters d) A s → (rest : List ℕ) → length rest < h .reclen → Ready (holding s (f .detail) rest)
   ready-holding f R s g rest l = record { going = g; detail = R .detail; held = l; long = length-padded rest (omega (arith, A .record256)) }
 
   -- ---- what a feed returns and leaves, by its run

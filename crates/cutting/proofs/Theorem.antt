@@ -15,7 +15,7 @@ use lib.Dec.{leb}
 use lib.ListN.{length, drop, length-append}
 use Rattle.counts.proofs.Laws.{by-test, by-cond, and-l}
 use Rattle.unpacked.specs.Head.{headOf}
-use Rattle.unpacked.specs.Table.{table, literals}
+use Rattle.unpacked.specs.Table.{table, characters}
 use Rattle.description.specs.declared.Checked.{Checked}
 use Rattle.description.specs.declared.Checked.the-variants as checks
 use Rattle.description.specs.Check.{checked}
@@ -53,7 +53,7 @@ module _ (d : List ℕ) (f : Feeder) (T : Typed f) where
     accepts : checked d ≡ checks.Accepted
     accepts = tests-pass d f e .0
 
-    abbrev A : facts.Accepted (headOf d) (table d) (literals d)
+    abbrev A : facts.Accepted (headOf d) (table d) (characters d)
     A = accepted d accepts
 
     ready : Ready d accepts A f

@@ -11,7 +11,7 @@ use lib.ListN.{length, take, drop, length-append, length-drop}
 use Rattle.counts.proofs.Laws.{by-test, and-l, and-r}
 use Rattle.tables.specs.declared.Head.{Head}
 use Rattle.unpacked.specs.Head.{headOf}
-use Rattle.unpacked.specs.Table.{table, literals}
+use Rattle.unpacked.specs.Table.{table, characters}
 use Rattle.description.specs.declared.Checked.the-variants as checks
 use Rattle.description.specs.Check.{checked}
 use Rattle.accepted.specs.Accepted as facts
@@ -28,7 +28,7 @@ use Rattle.cutting.specs.Cut.{printedBy}
 use Rattle.cutting.specs.Claims.{Roomy, Again}
 use Rattle.cutting.proofs.Feeds.{Tidy, tidy-same, courseOf, Ready, runOf, run-covers, run-then, length-held, unfinished-none, Went, went, taken-all, fed-course}
 
-module _ (d : List ℕ) (accepts : checked d ≡ checks.Accepted) (A : facts.Accepted (headOf d) (table d) (literals d)) (f : Feeder) (R : Ready d accepts A f)
+module _ (d : List ℕ) (accepts : checked d ≡ checks.Accepted) (A : facts.Accepted (headOf d) (table d) (characters d)) (f : Feeder) (R : Ready d accepts A f)
     (chunk out : List ℕ) (z : sized chunk ≡ true) (nine : feeder.number (feed d f chunk out .fed .verdict) ≡ 9) where
   abbrev h : Head
   h = headOf d
@@ -82,7 +82,7 @@ module _ (d : List ℕ) (accepts : checked d ≡ checks.Accepted) (A : facts.Acc
   whole : courseOf d accepts A f (joined f chunk) ≡ behind (printedBy first) (courseOf d accepts A next (joined next rest))
   whole =
       run-then d accepts A f R chunk out
-      ∙ ap (λ (n : ℕ). behind (take (run1 .run .count) (run1 .out)) (course (rowOf h (table d) (literals d) n) (h .reclen) (run1 .run .state) (drop (run1 .run .done) (joined f chunk)))) (sym (W1 .detail))
+      ∙ ap (λ (n : ℕ). behind (take (run1 .run .count) (run1 .out)) (course (rowOf h (table d) (characters d) n) (h .reclen) (run1 .run .state) (drop (run1 .run .done) (joined f chunk)))) (sym (W1 .detail))
       ∙ rw (W1 .printed, W1 .state, W1 .kept) refl
 
   -- ---- the second try, and the whole chunk at once

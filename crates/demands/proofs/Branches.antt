@@ -9,7 +9,7 @@ use borrow.Author.Tests.{eq-eqb}
 use Rattle.counts.proofs.Laws.{by-test}
 use Rattle.tables.specs.declared.Head.{Head}
 use Rattle.unpacked.specs.Head.{headOf}
-use Rattle.unpacked.specs.Table.{table, literals}
+use Rattle.unpacked.specs.Table.{table, characters}
 use Rattle.description.specs.declared.Checked.{Checked}
 use Rattle.description.specs.declared.Checked.the-variants.{Accepted, Broken}
 use Rattle.description.specs.Check.{checked}
@@ -48,23 +48,23 @@ module _ (d : List ℕ) (s : State) (out : List ℕ) where
   pub record Branches (P : Call → Result → Type 0) : Type 0 where
     pub refused : (c : Call) (v : Verdict) → 1 ≤ number v → number v ≤ 9 → P c (refuse s out v)
     pub silent : (c : Call) (phase : ℕ) → work d s c ≡ [] → next d s c ≡ freshAt phase → P c (record { answer = record { verdict = verdict.Accepted; count = 0; state = freshAt phase }; out = out })
-    pub row : checked d ≡ Accepted → (detail : ℕ) (row : List ℕ) → P (generate detail row) (settled h t s (rowWork h t (literals d) s detail row) out)
-    pub last : checked d ≡ Accepted → s .phase ≡ running → P terminate (settled h t s (lastWork h t (literals d) s) out)
+    pub row : checked d ≡ Accepted → (detail : ℕ) (row : List ℕ) → P (generate detail row) (settled h t s (rowWork h t (characters d) s detail row) out)
+    pub last : checked d ≡ Accepted → s .phase ≡ running → P terminate (settled h t s (lastWork h t (characters d) s) out)
 
   module _ (P : Call → Result → Type 0) (B : Branches P) where
     asked : (a : Asked) (row : List ℕ) → P (callOf a row) (calls.call d s a row out)
     unfolding calls.call
     asked a row =
-        by-check (λ k. P (callOf a row) (ifAccepted k s out (callOn h t (literals d) s a row out))) (checked d)
+        by-check (λ k. P (callOf a row) (ifAccepted k s out (callOn h t (characters d) s a row out))) (checked d)
         (λ x. by-test (stateOk h t s)
-        (λ k. tables.each-call h t (literals d) s out k (λ a row. P (callOf a row)) (record {
+        (λ k. tables.each-call h t (characters d) s out k (λ a row. P (callOf a row)) (record {
           refused = λ a row v l m. B .refused (callOf a row) v (omega arith) (omega arith);
           begins = λ e row. B .silent initiate started refl refl;
           row = λ n detail row R. B .row x detail row;
           ends = λ e row. let q = eq-eqb (s .phase) started e in B .silent terminate idle (rw q refl) (rw q refl);
           last = λ e row. B .last x e;
         }) a row)
-        (λ k. rw (tables.state-refused h t (literals d) s out k a row) (B .refused (callOf a row) verdict.State (omega arith) (omega arith))))
+        (λ k. rw (tables.state-refused h t (characters d) s out k a row) (B .refused (callOf a row) verdict.State (omega arith) (omega arith))))
         (λ n. B .refused (callOf a row) (verdict.Description n) (omega arith) (omega arith))
 
     pub each-call : (c : Call) → P c (answer d s c out)

@@ -12,7 +12,7 @@ use lib.ListN.{length, take}
 use Rattle.counts.proofs.Laws.{by-test}
 use Rattle.tables.specs.declared.Head.{Head}
 use Rattle.unpacked.specs.Head.{headOf}
-use Rattle.unpacked.specs.Table.{table, literals}
+use Rattle.unpacked.specs.Table.{table, characters}
 use Rattle.description.specs.declared.Checked.the-variants.{Accepted}
 use Rattle.description.specs.Check.{checked}
 use Rattle.accepted.specs.Accepted as facts
@@ -81,17 +81,17 @@ module _ (d : List ℕ) where
     abbrev t : List ℕ
     t = table d
 
-    A : facts.Accepted h t (literals d)
+    A : facts.Accepted h t (characters d)
     A = accepted d a
 
-    in-range : (s : State) → Stands h t (literals d) s → sumsOk (s .sums) ≡ true
+    in-range : (s : State) → Stands h t (characters d) s → sumsOk (s .sums) ≡ true
     in-range s S =
         by-phase h t s (S .rules) (λ e. idle-facts h t s e (S .rules) .inRange)
         (λ e. rw (started-facts h t s (S .sized) e (S .rules)) (zeros-good (h .counters) .range))
         (λ e. running-facts h t s e (S .rules) .inRange)
 
     -- a state that the run hands on, read from its bytes, is the state
-    pub read-back : (s : State) → Stands h t (literals d) s → stateOf (bytesOf s) ≡ s
+    pub read-back : (s : State) → Stands h t (characters d) s → stateOf (bytesOf s) ≡ s
     read-back s S = state-again s (in-bytes s (S .sized .sumsLong) (S .sized .flagsLong) (in-range s S))
 
     stored-next : (s : State) (u : Use) → stored (bytesOf s) (did d s u .result .answer) ≡ bytesOf (did d s u .result .answer .state)
@@ -99,26 +99,26 @@ module _ (d : List ℕ) where
         by-test (taken d (did d s u .result)) (λ e. rw e refl)
         (λ e. rw e (sym (ap bytesOf (refusal d s (u .out) (u .call) e .state))))
 
-    step : (s : State) → Stands h t (literals d) s → (u : Use) → leaves d (bytesOf s) u ≡ written d (did d s u)
+    step : (s : State) → Stands h t (characters d) s → (u : Use) → leaves d (bytesOf s) u ≡ written d (did d s u)
     step s S u =
         ap (λ (x : State). leaving (bytesOf s) (answer d x (u .call) (u .out))) (read-back s S)
         ∙ ap (λ (x : List ℕ). record { state = x; out = did d s u .result .out; numbers = written d (did d s u) .numbers }) (stored-next s u)
 
     -- what a call hands on
-    next-stands : (s : State) → Stands h t (literals d) s → (c : Call) (out : List ℕ) → Stands h t (literals d) (answer d s c out .answer .state)
+    next-stands : (s : State) → Stands h t (characters d) s → (c : Call) (out : List ℕ) → Stands h t (characters d) (answer d s c out .answer .state)
     unfolding calls.call
-    next-stands s S initiate out = rw a (call-stands h t (literals d) A s S out Initiate [])
-    next-stands s S (generate detail row) out = rw a (call-stands h t (literals d) A s S out (Generate detail) row)
-    next-stands s S terminate out = rw a (call-stands h t (literals d) A s S out Terminate [])
+    next-stands s S initiate out = rw a (call-stands h t (characters d) A s S out Initiate [])
+    next-stands s S (generate detail row) out = rw a (call-stands h t (characters d) A s S out (Generate detail) row)
+    next-stands s S terminate out = rw a (call-stands h t (characters d) A s S out Terminate [])
 
-    runs : (us : List Use) (s : State) → Stands h t (literals d) s → runBytes d (bytesOf s) us ≡ map (written d) (run d s us)
+    runs : (us : List Use) (s : State) → Stands h t (characters d) s → runBytes d (bytesOf s) us ≡ map (written d) (run d s us)
     unfolding runBytes run
     runs [] s S = refl
     runs (u ∷ us) s S =
         let e = step s S u in
         ap₂ _∷_ e (ap (λ (l : Left). runBytes d (l .state) us) e ∙ runs us (did d s u .result .answer .state) (next-stands s S (u .call) (u .out)))
 
-    longs : (us : List Use) (s : State) → Stands h t (literals d) s → All (λ l. length (l .state) ≡ 530) (map (written d) (run d s us))
+    longs : (us : List Use) (s : State) → Stands h t (characters d) s → All (λ l. length (l .state) ≡ 530) (map (written d) (run d s us))
     unfolding run
     longs [] s S = tt
     longs (u ∷ us) s S =
@@ -132,7 +132,7 @@ module _ (d : List ℕ) where
 
     pub demand3-bytes : (us : List Use) → Demand3Bytes d us
     demand3-bytes us =
-        let S = fresh-stands h t (literals d) A in
+        let S = fresh-stands h t (characters d) A in
         let e = runs us (freshAt 0) S in
         record {
           same = e;

@@ -13,7 +13,7 @@ use Rattle.counts.proofs.Laws.{by-test}
 use Rattle.splice.proofs.Laws.{length-splice, drop-splice}
 use Rattle.tables.specs.declared.Head.{Head}
 use Rattle.unpacked.specs.Head.{headOf}
-use Rattle.unpacked.specs.Table.{table, literals}
+use Rattle.unpacked.specs.Table.{table, characters}
 use Rattle.description.specs.declared.Checked.the-variants.{Accepted}
 use Rattle.description.specs.Check.{checked}
 use Rattle.accepted.proofs.Accept.{accepted}
@@ -80,18 +80,18 @@ module _ (d : List ℕ) (s : State) (out : List ℕ) where
     settles : Whole c (settled h t s w out)
     settles = each-settled h t s w out (Whole c) (λ v l m. refused c v (omega arith) m) (λ o l q. done q)
 
-  row-works : checked d ≡ Accepted → (detail : ℕ) (row : List ℕ) → Whole (generate detail row) (settled h t s (rowWork h t (literals d) s detail row) out)
+  row-works : checked d ≡ Accepted → (detail : ℕ) (row : List ℕ) → Whole (generate detail row) (settled h t s (rowWork h t (characters d) s detail row) out)
   row-works a detail row =
-      let w = rowWork h t (literals d) s detail row in
+      let w = rowWork h t (characters d) s detail row in
       let A = accepted d a in
       by-test (eqb (s .phase) started)
-      (λ e. settles (generate detail row) w (rw e (first-shows h t (literals d) A s detail row)) refl refl refl)
-      (λ e. settles (generate detail row) w (rw e (later-shows h t (literals d) A s detail row)) refl refl refl)
+      (λ e. settles (generate detail row) w (rw e (first-shows h t (characters d) A s detail row)) refl refl refl)
+      (λ e. settles (generate detail row) w (rw e (later-shows h t (characters d) A s detail row)) refl refl refl)
 
-  last-works : checked d ≡ Accepted → s .phase ≡ running → Whole terminate (settled h t s (lastWork h t (literals d) s) out)
+  last-works : checked d ≡ Accepted → s .phase ≡ running → Whole terminate (settled h t s (lastWork h t (characters d) s) out)
   last-works a e =
       let q : eqb (s .phase) started ≡ false = rw e refl in
-      settles terminate (lastWork h t (literals d) s) (last-shows h t (literals d) (accepted d a) s) refl (rw q refl) (rw q refl)
+      settles terminate (lastWork h t (characters d) s) (last-shows h t (characters d) (accepted d a) s) refl (rw q refl) (rw q refl)
 
   pub whole : (c : Call) → Whole c (answer d s c out)
   whole = each-call d s out Whole (record { refused = refused; silent = silent; row = row-works; last = last-works })

@@ -7,7 +7,7 @@ use mathlib.Core.Logic.{_↔_}
 use Rattle.file.specs.Trailer.{version}
 use Rattle.file.specs.Rule.{ruled}
 use Rattle.unpacked.specs.Head.{headOf}
-use Rattle.unpacked.specs.Table.{table, literals}
+use Rattle.unpacked.specs.Table.{table, characters}
 use Rattle.description.specs.declared.Checked.the-variants.{Accepted}
 use Rattle.description.specs.Check.{from3, from4, from5, from6, from7, from8, judged, checked}
 use Rattle.accepted.proofs.Accept.{judged-passes, checked-d1, checked-judged}
@@ -15,7 +15,7 @@ use Rattle.demands.specs.Demands.{KeepsRules}
 
 accepted-keeps : (d : List ℕ) → checked d ≡ Accepted → KeepsRules d
 accepted-keeps d e =
-    let r = judged-passes (version d) (headOf d) (table d) (literals d) (checked-judged d e) in
+    let r = judged-passes (version d) (headOf d) (table d) (characters d) (checked-judged d e) in
     record { d1 = checked-d1 d e; d2 = r .d2; d3 = r .d3; d4 = r .d4; d5 = r .d5; d6 = r .d6; d7 = r .d7; d8 = r .d8 }
 
 keeps-accepted : (d : List ℕ) → KeepsRules d → checked d ≡ Accepted

@@ -7,7 +7,7 @@ use mathlib.Core.Logic.{_⊎_}
 use lib.Dec.{eqb}
 use lib.ListN.{length, take, drop}
 use Rattle.unpacked.specs.Head.{headOf}
-use Rattle.unpacked.specs.Table.{table, literals}
+use Rattle.unpacked.specs.Table.{table, characters}
 use Rattle.layout.specs.Layout.{Due}
 use Rattle.printed.specs.Printed.{noPrefix}
 use Rattle.due_text.specs.Bytes.{dueBytes, byteCount}
@@ -33,14 +33,14 @@ module _ (d : List ℕ) where
   -- the groups that a call has to print: those of its layout. "TERMINATE when started prints nothing"
   abbrev pub work : State → Call → List Due
   work s initiate = []
-  work s (generate detail row) = rowWork (headOf d) (table d) (literals d) s detail row .laid .dues
-  work s terminate = cond (eqb (s .phase) started) [] (lastWork (headOf d) (table d) (literals d) s .laid .dues)
+  work s (generate detail row) = rowWork (headOf d) (table d) (characters d) s detail row .laid .dues
+  work s terminate = cond (eqb (s .phase) started) [] (lastWork (headOf d) (table d) (characters d) s .laid .dues)
 
   -- the state that the call's whole work leaves: "INITIATE yields started"; a row or the last groups leave the place that their layout reaches
   abbrev pub next : State → Call → State
   next s initiate = freshAt started
-  next s (generate detail row) = let w = rowWork (headOf d) (table d) (literals d) s detail row in moved w (w .laid .to)
-  next s terminate = cond (eqb (s .phase) started) (freshAt idle) (let w = lastWork (headOf d) (table d) (literals d) s in moved w (w .laid .to))
+  next s (generate detail row) = let w = rowWork (headOf d) (table d) (characters d) s detail row in moved w (w .laid .to)
+  next s terminate = cond (eqb (s .phase) started) (freshAt idle) (let w = lastWork (headOf d) (table d) (characters d) s in moved w (w .laid .to))
 
   -- "does its whole work": the next state, every line of every group, "lines times W + 10" bytes of it; "output bytes from that count on stay as
   -- they were"

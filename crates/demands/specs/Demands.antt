@@ -7,7 +7,7 @@ use mathlib.Core.Logic.{_↔_}
 use Rattle.file.specs.Trailer.{version}
 use Rattle.file.specs.Sections.{ruleD1}
 use Rattle.unpacked.specs.Head.{headOf}
-use Rattle.unpacked.specs.Table.{table, literals}
+use Rattle.unpacked.specs.Table.{table, characters}
 use Rattle.fields.specs.Page.{ruleD2}
 use Rattle.fields.specs.Fields.{ruleD3}
 use Rattle.fields.specs.Controls.{ruleD4}
@@ -34,7 +34,7 @@ pub record KeepsRules (d : List ℕ) : Type 0 where
   pub d4 : ruleD4 (headOf d) (table d) ≡ true
   pub d5 : ruleD5 (headOf d) (table d) ≡ true
   pub d6 : ruleD6 (headOf d) (table d) ≡ true
-  pub d7 : ruleD7 (headOf d) (table d) (literals d) ≡ true
+  pub d7 : ruleD7 (headOf d) (table d) (characters d) ≡ true
   pub d8 : ruleD8 (headOf d) (table d) ≡ true
 
 pub record Demands : Type 0 where

@@ -1,21 +1,21 @@
--- What CHECK's answer says: the first broken rule is 1 to 8, 0 means accepted; the literals of a description that passes D1 lie inside it.
+-- What CHECK's answer says: the first broken rule is 1 to 9, 0 means accepted; how many characters a description that passes D1 has.
 -- Assumes nothing.
 use Prim.Native.Nat.{ℕ, _≤_}
 use mathlib.Core.Path.{_≡_, refl, sym, _∙_, ap}
 use mathlib.Core.Bool.{Bool, true, false}
 use mathlib.Core.List.{List}
 use native.Mathlib.Omega.{arith}
-use lib.ListN.{length, take, replicate, length-replicate}
+use lib.ListN.{length, take, drop, replicate, length-drop, length-replicate}
 use lib.Seq.{length-take-le}
 use Rattle.file.specs.Rule.{ruled}
-use Rattle.file.specs.Trailer.{version}
+use Rattle.file.specs.Trailer.{version, start}
 use Rattle.file.specs.Sections.{ruleD1}
 use Rattle.tables.specs.declared.Head.{Head}
 use Rattle.unpacked.specs.Head.{headOf, numbersOf}
 use Rattle.tables.specs.Section.{literalSection}
-use Rattle.unpacked.specs.Table.{numbers, table, numbersMax, literals}
-use Rattle.file.proofs.D1.{ends, long}
-use Rattle.unpacked.proofs.Says.{few, numbers-head}
+use Rattle.tables.specs.Table.{charactersOf}
+use Rattle.unpacked.specs.Table.{numbers, table, numbersMax, characters}
+use Rattle.unpacked.proofs.Says.{few, numbers-head, characters-inside}
 use Rattle.fields.specs.Page.{ruleD2}
 use Rattle.fields.specs.Fields.{ruleD3}
 use Rattle.fields.specs.Controls.{ruleD4}
@@ -23,32 +23,34 @@ use Rattle.groups.specs.Groups.{ruleD5}
 use Rattle.fits.specs.Fits.{ruleD6}
 use Rattle.items.specs.Items.{ruleD7}
 use Rattle.counters.specs.Counters.{ruleD8}
+use Rattle.pictures.specs.Pictures.{rule9}
 use Rattle.description.specs.declared.Checked.{Checked}
 use Rattle.description.specs.declared.Checked.the-variants.{Accepted, Broken}
-use Rattle.description.specs.Check.{orBroken, from3, from4, from5, from6, from7, from8, judged, checked}
+use Rattle.description.specs.Check.{orBroken, from3, from4, from5, from6, from7, from8, from9, judged, checked}
 use Rattle.description.specs.Refusal.{number, extra, RuleIn, Answers}
-use Rattle.description.specs.Facts.{LiteralsIn, TableRoom}
+use Rattle.description.specs.Facts.{TableRoom}
 
--- "first broken rule, 1 to 8"
-after-in : (n : ℕ) (b : Bool) (rest : Checked) → 1 ≤ n → n ≤ 8 → RuleIn rest → RuleIn (orBroken n (ruled b) rest)
+-- "first broken rule, 1 to 8", or 9
+after-in : (n : ℕ) (b : Bool) (rest : Checked) → 1 ≤ n → n ≤ 9 → RuleIn rest → RuleIn (orBroken n (ruled b) rest)
 unfolding ruled
 after-in n true rest l m s k e = s k e
 after-in n false rest l m s k e = let q : n ≡ k = cc in (omega arith, omega arith)
 
-judged-in : (v : ℕ) (h : Head) (t lits : List ℕ) → RuleIn (judged v h t lits)
-unfolding judged from3 from4 from5 from6 from7 from8
-judged-in v h t lits =
-    after-in 2 (ruleD2 v h) (from3 h t lits) (omega arith) (omega arith)
-    (after-in 3 (ruleD3 h t) (from4 h t lits) (omega arith) (omega arith)
-    (after-in 4 (ruleD4 h t) (from5 h t lits) (omega arith) (omega arith)
-    (after-in 5 (ruleD5 h t) (from6 h t lits) (omega arith) (omega arith)
-    (after-in 6 (ruleD6 h t) (from7 h t lits) (omega arith) (omega arith)
-    (after-in 7 (ruleD7 h t lits) (from8 h t) (omega arith) (omega arith)
-    (after-in 8 (ruleD8 h t) Accepted (omega arith) (omega arith) (λ k e. let z : _≡_ {A = ℕ} 0 1 = cc in absurd (omega arith))))))))
+judged-in : (v : ℕ) (h : Head) (t chars : List ℕ) → RuleIn (judged v h t chars)
+unfolding judged from3 from4 from5 from6 from7 from8 from9
+judged-in v h t chars =
+    after-in 2 (ruleD2 v h) (from3 v h t chars) (omega arith) (omega arith)
+    (after-in 3 (ruleD3 h t) (from4 v h t chars) (omega arith) (omega arith)
+    (after-in 4 (ruleD4 h t) (from5 v h t chars) (omega arith) (omega arith)
+    (after-in 5 (ruleD5 h t) (from6 v h t chars) (omega arith) (omega arith)
+    (after-in 6 (ruleD6 h t) (from7 v h t chars) (omega arith) (omega arith)
+    (after-in 7 (ruleD7 h t chars) (from8 v h t chars) (omega arith) (omega arith)
+    (after-in 8 (ruleD8 h t) (from9 v h t chars) (omega arith) (omega arith)
+    (after-in 9 (rule9 v h t chars) Accepted (omega arith) (omega arith) (λ k e. let z : _≡_ {A = ℕ} 0 1 = cc in absurd (omega arith)))))))))
 
 pub broken-in : (d : List ℕ) → RuleIn (checked d)
 unfolding checked
-broken-in d = after-in 1 (ruleD1 d) (judged (version d) (headOf d) (table d) (literals d)) (omega arith) (omega arith) (judged-in (version d) (headOf d) (table d) (literals d))
+broken-in d = after-in 1 (ruleD1 d) (judged (version d) (headOf d) (table d) (characters d)) (omega arith) (omega arith) (judged-in (version d) (headOf d) (table d) (characters d))
 
 -- the answer of the definition, with its number and its extra number
 pub answers : (d : List ℕ) (r : Checked) → r ≡ checked d → Answers d r
@@ -59,7 +61,7 @@ told : (r : Checked) → RuleIn r → extra r ≡ 0 → r ≡ Accepted
 told Accepted s e = refl
 told (Broken k) s e = absurd (omega (arith, s k refl .0))
 
-pub extra-small : (r : Checked) → RuleIn r → extra r ≤ 8
+pub extra-small : (r : Checked) → RuleIn r → extra r ≤ 9
 extra-small Accepted s = omega arith
 extra-small (Broken k) s = s k refl .1
 
@@ -74,13 +76,16 @@ pub d1-broken : (d : List ℕ) → ruleD1 d ≡ false → checked d ≡ Broken 1
 unfolding checked ruled
 d1-broken d e = rw e refl
 
-pub d1-passed : (d : List ℕ) → ruleD1 d ≡ true → checked d ≡ judged (version d) (headOf d) (table d) (literals d)
+pub d1-passed : (d : List ℕ) → ruleD1 d ≡ true → checked d ≡ judged (version d) (headOf d) (table d) (characters d)
 unfolding checked ruled
 d1-passed d e = rw e refl
 
--- "literals ending at the trailer"
-pub literals-in : (d : List ℕ) → ruleD1 d ≡ true → LiteralsIn d
-literals-in d e = let l = long d e in let z = ends d e literalSection (omega arith) in (l, omega arith)
+-- how many characters it has
+pub length-characters : (d : List ℕ) → ruleD1 d ≡ true → length (characters d) ≡ charactersOf (headOf d)
+unfolding characters
+length-characters d e =
+    let l : charactersOf (headOf d) ≤ length (drop (start d literalSection) d) = simp length-drop (omega (arith, characters-inside d e)) in
+    length-take-le (charactersOf (headOf d)) (drop (start d literalSection) d) l
 
 -- the front of an array that is lent for the table
 pub front : (n m x : ℕ) → n ≤ m → length (take n (replicate m x)) ≡ n

@@ -9,7 +9,7 @@ use Rattle.description.specs.Check.{checked}
 use Rattle.description.specs.declared.Checked.{Checked}
 use Rattle.description.specs.declared.Checked.the-variants.{Accepted, Broken}
 
--- its verdict: "1 | description breaks a rule D1 to D8 | first broken rule, 1 to 8"
+-- its verdict: "1 | description breaks a rule D1 to D8 | first broken rule, 1 to 8"; "rule 9 of refusal 1"
 abbrev pub verdictOf : Checked → Verdict
 verdictOf Accepted = verdict.Accepted
 verdictOf (Broken k) = verdict.Description k
@@ -20,9 +20,9 @@ number r = table.number (verdictOf r)
 abbrev pub extra : Checked → ℕ
 extra r = table.extra (verdictOf r)
 
--- "first broken rule, 1 to 8"
+-- "first broken rule, 1 to 8", or 9
 abbrev pub RuleIn : Checked → Type 0
-RuleIn r = (k : ℕ) → r ≡ Broken k → (1 ≤ k) × (k ≤ 8)
+RuleIn r = (k : ℕ) → r ≡ Broken k → (1 ≤ k) × (k ≤ 9)
 
 -- what CHECK promises: the answer of the definition, so its number and its extra number
 pub record Answers (d : List ℕ) (r : Checked) : Type 0 where

@@ -1,9 +1,15 @@
-// CHECK: a description is accepted exactly when it keeps D1 to D8.
+// CHECK: a description is accepted exactly when it keeps D1 to D8 and rule 9.
 ghost use mathlib.Core.Path.{_≡_};
 ghost use Rattle.description.specs.Check.{checked, judged};
 ghost use Rattle.description.specs.Refusal.{number, extra, Answers};
-ghost use Rattle.unpacked.specs.Table.{table, literals};
-ghost use Rattle.description.specs.Facts.{LiteralsIn, TableRoom};
+ghost use mathlib.Core.Bool.{true};
+ghost use Prim.Native.Nat.{_≤_};
+ghost use lib.ListN.{length};
+ghost use Rattle.file.specs.Sections.{ruleD1};
+ghost use Rattle.tables.specs.Table.{charactersOf};
+ghost use Rattle.unpacked.specs.Head.{headOf};
+ghost use Rattle.unpacked.specs.Table.{table, characters};
+ghost use Rattle.description.specs.Facts.{TableRoom};
 use file::Rule;
 use tables::Head;
 use unpacked::Opened;
@@ -36,9 +42,10 @@ impl Checked {
     }
 }
 
-// D2 to D8 on the tables, of a description of version `v`.
-pub fn judge(t: &[u16], h: Head, v: usize, lits: &[u8]) -> Checked
-    ensures { λ r. ⌜ r ≡ judged v h (now (t .entry)) (now (lits .entry)) ⌝ }
+// D2 to D8 and rule 9 on the tables, of a description of version `v`.
+pub fn judge(t: &[u16], h: Head, v: usize, chars: &[u8]) -> Checked
+    requires { ⌜ charactersOf h ≤ length (now chars) ⌝ }
+    ensures { λ r. ⌜ r ≡ judged v h (now (t .entry)) (now (chars .entry)) ⌝ }
 {
     let details = lookup::details_of(t, h);
     let Rule::Passed = fields::rule_d2(h, v) else {
@@ -56,22 +63,25 @@ pub fn judge(t: &[u16], h: Head, v: usize, lits: &[u8]) -> Checked
     let Rule::Passed = fits::rule_d6(t, h) else {
         return Checked::Broken(6);
     };
-    let Rule::Passed = items::rule_d7(t, h, lits) else {
+    let Rule::Passed = items::rule_d7(t, h, chars) else {
         return Checked::Broken(7);
     };
     let Rule::Passed = counters::rule_d8(t, h, details) else {
         return Checked::Broken(8);
     };
+    let Rule::Passed = pictures::rule_9(t, h, v, chars) else {
+        return Checked::Broken(9);
+    };
     Checked::Accepted
 }
 
-// The literal bytes of a description that keeps D1.
-pub fn literals_of(d: &[u8]) -> &[u8]
-    requires { ⌜ LiteralsIn (now d) ⌝ }
-    ensures { λ r. ⌜ now r ≡ literals (now (d .entry)) ⌝ }
+// The characters of a description that keeps D1: its literals and, behind them, its pictures.
+pub fn characters_in(d: &[u8], h: Head) -> &[u8]
+    requires { ⌜ (ruleD1 (now d) ≡ true) × (h ≡ headOf (now d)) ⌝ }
+    ensures { λ r. ⌜ now r ≡ characters (now (d .entry)) ⌝ }
 {
     let start = file::start_of(d, tables::LITERALS);
-    let end = start + file::count_of(d, tables::LITERALS);
+    let end = start + unpacked::characters_of(h);
     &d[start..end]
 }
 
@@ -80,8 +90,8 @@ pub fn check_in(d: &[u8], h: Head, t: &mut [u16]) -> Checked
     requires { ⌜ TableRoom (now d) h (now t) ⌝ }
     ensures { λ r. ⌜ (r ≡ checked (now (d .entry))) × (now (t .exit) ≡ table (now (d .entry))) ⌝ }
 {
-    unpacked::unpack(d, t);
-    judge(t, h, file::version_of(d), literals_of(d))
+    unpacked::unpack(d, h, t);
+    judge(t, h, file::version_of(d), characters_in(d, h))
 }
 
 // CHECK: any bytes, nothing written.

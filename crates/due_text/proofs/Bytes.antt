@@ -89,7 +89,7 @@ module _ (h : Head) (t : List ℕ) where
   unfolding layout
   in-layout p s = in-append (in-opened p s) (in-append (in-turns (turns h t p) _) (in-closed p _))
 
-module _ (h : Head) (t : List ℕ) (rd : Reading) (items : ItemsIn h t (rd .lits)) (short : Short (rd .prefix)) where
+module _ (h : Head) (t : List ℕ) (rd : Reading) (items : ItemsIn h t (rd .chars)) (short : Short (rd .prefix)) where
   pub length-dueBytes : {us : List Due} → GroupsIn h us → length (dueBytes h t rd us) ≡ byteCount h t (rd .prefix) us
   unfolding dueBytes byteCount lineTotal
   length-dueBytes none = omega arith

@@ -14,7 +14,7 @@ use Rattle.layout.specs.Lines.{lineTotal}
 
 -- what the lines of a call read, and what they have in common: the indicate flag of the detail, and what stands in front of each record
 pub record Reading : Type 0 where
-  pub lits : List ℕ
+  pub chars : List ℕ
   pub kept : List ℕ
   pub row : List ℕ
   pub sums : List ℤ
@@ -22,10 +22,10 @@ pub record Reading : Type 0 where
   pub prefix : Prefix
 
 abbrev pub reading : List ℕ → List ℕ → List ℕ → List ℤ → Bool → Prefix → Reading
-reading lits kept row sums flag prefix = record { lits = lits; kept = kept; row = row; sums = sums; flag = flag; prefix = prefix }
+reading chars kept row sums flag prefix = record { chars = chars; kept = kept; row = row; sums = sums; flag = flag; prefix = prefix }
 
 abbrev pub inputsOf : Reading → Inputs
-inputsOf r = inputs (r .lits) (r .kept) (r .row) (r .sums)
+inputsOf r = inputs (r .chars) (r .kept) (r .row) (r .sums)
 
 -- the first line of a group due
 abbrev pub viewOf : Reading → Due → View

@@ -14,7 +14,7 @@ use Rattle.due_text.specs.Bytes.{Reading, inputsOf, dueBytes}
 
 -- every item of the description can be shown
 pub record Printable (h : Head) (t : List ℕ) (r : Reading) : Type 0 where
-  pub items : ItemsIn h t (r .lits)
+  pub items : ItemsIn h t (r .chars)
   pub readable : Readable h t (inputsOf r)
   pub prefix : Short (r .prefix)
 

@@ -43,18 +43,18 @@ pub fn print_of(v: View, page: u32, s: Start, at: usize) -> Print
 pub fn print_due<'a>(
     t: &[u16],
     h: Head,
-    lits: &[u8],
+    chars: &[u8],
     kept: &'a [u8],
     row: &'a [u8],
     sums: &[i64],
     p: Print,
     out: &mut [u8],
 ) -> usize
-    requires { ⌜ StartIn h (p .group) (p .first .line) × Room h (now t) (reading (now lits) (now kept) (now row) (now sums) (p .first .flag) (p .first .prefix)) (dueOf h (now t) (p .group) (p .first .«from_kept») (p .first .page) (p .first .line)) (p .at) (now out) ⌝ }
-    ensures { λ r. ⌜ Wrote (now (out .entry)) (p .at) (dueBytes h (now (t .entry)) (reading (now (lits .entry)) (now (kept .entry)) (now (row .entry)) (now (sums .entry)) (p .first .flag) (p .first .prefix)) (dueOf h (now (t .entry)) (p .group) (p .first .«from_kept») (p .first .page) (p .first .line))) (now (out .exit)) r ⌝ }
+    requires { ⌜ StartIn h (p .group) (p .first .line) × Room h (now t) (reading (now chars) (now kept) (now row) (now sums) (p .first .flag) (p .first .prefix)) (dueOf h (now t) (p .group) (p .first .«from_kept») (p .first .page) (p .first .line)) (p .at) (now out) ⌝ }
+    ensures { λ r. ⌜ Wrote (now (out .entry)) (p .at) (dueBytes h (now (t .entry)) (reading (now (chars .entry)) (now (kept .entry)) (now (row .entry)) (now (sums .entry)) (p .first .flag) (p .first .prefix)) (dueOf h (now (t .entry)) (p .group) (p .first .«from_kept») (p .first .page) (p .first .line))) (now (out .exit)) r ⌝ }
 {
     if fits::present_of(t, h, p.group) {
-        return group_text::print_group(t, h, lits, kept, row, sums, p, out);
+        return group_text::print_group(t, h, chars, kept, row, sums, p, out);
     }
     p.at
 }
@@ -63,38 +63,38 @@ pub fn print_due<'a>(
 pub fn print_pair<'a>(
     t: &[u16],
     h: Head,
-    lits: &[u8],
+    chars: &[u8],
     kept: &'a [u8],
     row: &'a [u8],
     sums: &[i64],
     x: Pair,
     out: &mut [u8],
 ) -> usize
-    requires { ⌜ StartIn h (x .one .group) (x .one .at) × (StartIn h (x .two .group) (x .two .at) × Room h (now t) (reading (now lits) (now kept) (now row) (now sums) (x .view .flag) (x .view .prefix)) (dueOf h (now t) (x .one .group) (x .view .«from_kept») (x .view .page) (x .one .at) ++ dueOf h (now t) (x .two .group) (x .view .«from_kept») (x .next) (x .two .at)) (x .at) (now out)) ⌝ }
-    ensures { λ r. ⌜ Wrote (now (out .entry)) (x .at) (dueBytes h (now (t .entry)) (reading (now (lits .entry)) (now (kept .entry)) (now (row .entry)) (now (sums .entry)) (x .view .flag) (x .view .prefix)) (dueOf h (now (t .entry)) (x .one .group) (x .view .«from_kept») (x .view .page) (x .one .at) ++ dueOf h (now (t .entry)) (x .two .group) (x .view .«from_kept») (x .next) (x .two .at))) (now (out .exit)) r ⌝ }
+    requires { ⌜ StartIn h (x .one .group) (x .one .at) × (StartIn h (x .two .group) (x .two .at) × Room h (now t) (reading (now chars) (now kept) (now row) (now sums) (x .view .flag) (x .view .prefix)) (dueOf h (now t) (x .one .group) (x .view .«from_kept») (x .view .page) (x .one .at) ++ dueOf h (now t) (x .two .group) (x .view .«from_kept») (x .next) (x .two .at)) (x .at) (now out)) ⌝ }
+    ensures { λ r. ⌜ Wrote (now (out .entry)) (x .at) (dueBytes h (now (t .entry)) (reading (now (chars .entry)) (now (kept .entry)) (now (row .entry)) (now (sums .entry)) (x .view .flag) (x .view .prefix)) (dueOf h (now (t .entry)) (x .one .group) (x .view .«from_kept») (x .view .page) (x .one .at) ++ dueOf h (now (t .entry)) (x .two .group) (x .view .«from_kept») (x .next) (x .two .at))) (now (out .exit)) r ⌝ }
 {
     let view = x.view;
     let one = x.one;
     let two = x.two;
     let first = print_of(view, view.page, one, x.at);
-    let a = print_due(t, h, lits, kept, row, sums, first, out);
+    let a = print_due(t, h, chars, kept, row, sums, first, out);
     let second = print_of(view, x.next, two, a);
-    print_due(t, h, lits, kept, row, sums, second, out)
+    print_due(t, h, chars, kept, row, sums, second, out)
 }
 
 // Prints one page change: PF, and PH on the next page.
 fn print_change<'a>(
     t: &[u16],
     h: Head,
-    lits: &[u8],
+    chars: &[u8],
     kept: &'a [u8],
     row: &'a [u8],
     sums: &[i64],
     x: Changes,
     out: &mut [u8],
 ) -> usize
-    requires { ⌜ (x .view .page ≤ 1000200) × Room h (now t) (reading (now lits) (now kept) (now row) (now sums) (x .view .flag) (x .view .prefix)) (pageChange h (now t) (x .view .«from_kept») (x .view .page)) (x .at) (now out) ⌝ }
-    ensures { λ r. ⌜ Wrote (now (out .entry)) (x .at) (dueBytes h (now (t .entry)) (reading (now (lits .entry)) (now (kept .entry)) (now (row .entry)) (now (sums .entry)) (x .view .flag) (x .view .prefix)) (pageChange h (now (t .entry)) (x .view .«from_kept») (x .view .page))) (now (out .exit)) r ⌝ }
+    requires { ⌜ (x .view .page ≤ 1000200) × Room h (now t) (reading (now chars) (now kept) (now row) (now sums) (x .view .flag) (x .view .prefix)) (pageChange h (now t) (x .view .«from_kept») (x .view .page)) (x .at) (now out) ⌝ }
+    ensures { λ r. ⌜ Wrote (now (out .entry)) (x .at) (dueBytes h (now (t .entry)) (reading (now (chars .entry)) (now (kept .entry)) (now (row .entry)) (now (sums .entry)) (x .view .flag) (x .view .prefix)) (pageChange h (now (t .entry)) (x .view .«from_kept») (x .view .page))) (now (out .exit)) r ⌝ }
 {
     let view = x.view;
     let footing = headings::page_footing(t, h);
@@ -106,22 +106,22 @@ fn print_change<'a>(
         view,
         at: x.at,
     };
-    print_pair(t, h, lits, kept, row, sums, pair, out)
+    print_pair(t, h, chars, kept, row, sums, pair, out)
 }
 
 // Prints the page changes before a group.
 pub fn print_changes<'a>(
     t: &[u16],
     h: Head,
-    lits: &[u8],
+    chars: &[u8],
     kept: &'a [u8],
     row: &'a [u8],
     sums: &[i64],
     x: Changes,
     out: &mut [u8],
 ) -> usize
-    requires { ⌜ (x .view .page + x .count ≤ 1000200) × Room h (now t) (reading (now lits) (now kept) (now row) (now sums) (x .view .flag) (x .view .prefix)) (pageChanges h (now t) (x .view .«from_kept») (x .count) (x .view .page)) (x .at) (now out) ⌝ }
-    ensures { λ r. ⌜ Wrote (now (out .entry)) (x .at) (dueBytes h (now (t .entry)) (reading (now (lits .entry)) (now (kept .entry)) (now (row .entry)) (now (sums .entry)) (x .view .flag) (x .view .prefix)) (pageChanges h (now (t .entry)) (x .view .«from_kept») (x .count) (x .view .page))) (now (out .exit)) r ⌝ }
+    requires { ⌜ (x .view .page + x .count ≤ 1000200) × Room h (now t) (reading (now chars) (now kept) (now row) (now sums) (x .view .flag) (x .view .prefix)) (pageChanges h (now t) (x .view .«from_kept») (x .count) (x .view .page)) (x .at) (now out) ⌝ }
+    ensures { λ r. ⌜ Wrote (now (out .entry)) (x .at) (dueBytes h (now (t .entry)) (reading (now (chars .entry)) (now (kept .entry)) (now (row .entry)) (now (sums .entry)) (x .view .flag) (x .view .prefix)) (pageChanges h (now (t .entry)) (x .view .«from_kept») (x .count) (x .view .page))) (now (out .exit)) r ⌝ }
 {
     let from = x.view;
     let mut left = x.count;
@@ -134,7 +134,7 @@ pub fn print_changes<'a>(
             view,
             at: to,
         };
-        to = print_change(t, h, lits, kept, row, sums, change, out);
+        to = print_change(t, h, chars, kept, row, sums, change, out);
         page += 1;
         left -= 1;
     }

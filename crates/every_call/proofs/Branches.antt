@@ -30,9 +30,9 @@ use Rattle.work.specs.Work.{settled}
 use Rattle.work.specs.Rows.{rowWork, lastWork}
 use Rattle.calls.specs.Calls.{begun, ended, callOn}
 
-module _ (h : Head) (t lits : List ℕ) (s : State) (out : List ℕ) where
+module _ (h : Head) (t chars : List ℕ) (s : State) (out : List ℕ) where
   -- a state that breaks its rules is refused, whatever is asked
-  pub state-refused : stateOk h t s ≡ false → (a : Asked) (row : List ℕ) → callOn h t lits s a row out ≡ refuse s out verdict.State
+  pub state-refused : stateOk h t s ≡ false → (a : Asked) (row : List ℕ) → callOn h t chars s a row out ≡ refuse s out verdict.State
   unfolding callOn
   state-refused e Initiate row = rw e refl
   state-refused e (Generate detail) row = rw e refl
@@ -42,16 +42,16 @@ module _ (h : Head) (t lits : List ℕ) (s : State) (out : List ℕ) where
   pub record Branches (P : Asked → List ℕ → Result → Type 0) : Type 0 where
     pub refused : (a : Asked) (row : List ℕ) (v : Verdict) → 3 ≤ number v → number v ≤ 6 → P a row (refuse s out v)
     pub begins : s .phase ≡ idle → (row : List ℕ) → P Initiate row (begun out)
-    pub row : (s .phase ≡ idle → ⊥) → (detail : ℕ) (row : List ℕ) → RowIn h t detail row → P (Generate detail) row (settled h t s (rowWork h t lits s detail row) out)
+    pub row : (s .phase ≡ idle → ⊥) → (detail : ℕ) (row : List ℕ) → RowIn h t detail row → P (Generate detail) row (settled h t s (rowWork h t chars s detail row) out)
     pub ends : s .phase ≡ started → (row : List ℕ) → P Terminate row (ended out)
-    pub last : s .phase ≡ running → (row : List ℕ) → P Terminate row (settled h t s (lastWork h t lits s) out)
+    pub last : s .phase ≡ running → (row : List ℕ) → P Terminate row (settled h t s (lastWork h t chars s) out)
 
   module _ (rules : stateOk h t s ≡ true) (P : Asked → List ℕ → Result → Type 0) (B : Branches P) where
     -- neither idle nor started
     is-running : (s .phase ≡ idle → ⊥) → (s .phase ≡ started → ⊥) → s .phase ≡ running
     is-running a b = by-phase h t s rules (λ e. absurd (a e)) (λ e. absurd (b e)) (λ e. e)
 
-    pub each-call : (a : Asked) (row : List ℕ) → P a row (callOn h t lits s a row out)
+    pub each-call : (a : Asked) (row : List ℕ) → P a row (callOn h t chars s a row out)
     unfolding callOn recordTried
     each-call Initiate row =
         rw rules

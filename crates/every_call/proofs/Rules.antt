@@ -46,14 +46,14 @@ use Rattle.every_call.proofs.Branches.{each-call}
 fresh-sized : (phase : ℕ) → Sized (freshAt phase)
 fresh-sized phase = record { sumsLong = length-replicate sumCount (pos 0); flagsLong = length-replicate flagCount false; keptLong = length-replicate {A = ℕ} keptSize 0 }
 
-module _ (h : Head) (t lits : List ℕ) (A : Accepted h t lits) where
+module _ (h : Head) (t chars : List ℕ) (A : Accepted h t chars) where
   page-in : PageIn h
   page-in = record { body = omega (arith, A .pageFits .fdLd, A .pageFits .ldFt); foot = A .pageFits .ftPage; short = A .pageFits .page999 }
 
-  pub fresh-stands : Stands h t lits (freshAt idle)
+  pub fresh-stands : Stands h t chars (freshAt idle)
   fresh-stands = record { accepted = A; rules = fresh-ok h t; sized = fresh-sized idle }
 
-  pub begun-stands : Stands h t lits (freshAt started)
+  pub begun-stands : Stands h t chars (freshAt started)
   begun-stands = record { accepted = A; rules = started-ok h t; sized = fresh-sized started }
 
   -- ---- flags and kept bytes, as a running state has them
@@ -98,7 +98,7 @@ module _ (h : Head) (t lits : List ℕ) (A : Accepted h t lits) where
     place : Running (frameOf h t) (w .laid .to .spot)
     page : 1 ≤ w .laid .to .page
 
-  leaves-running : (w : Work) → Leaves w → w .laid .to .page ≤ lastPage → Stands h t lits (moved w (w .laid .to))
+  leaves-running : (w : Work) → Leaves w → w .laid .to .page ≤ lastPage → Stands h t chars (moved w (w .laid .to))
   unfolding frameOf
   leaves-running w x l = record {
     accepted = A;
@@ -119,20 +119,20 @@ module _ (h : Head) (t lits : List ℕ) (A : Accepted h t lits) where
     sized = record { sumsLong = x .sums .long; flagsLong = x .flags .long; keptLong = x .kept .long };
   }
 
-  module _ (s : State) (S : Stands h t lits s) where
+  module _ (s : State) (S : Stands h t chars s) where
     -- ---- the first row of a report
     module _ (detail : ℕ) (row : List ℕ) (R : RowIn h t detail row) (e : s .phase ≡ started) where
       fresh : s ≡ freshAt started
       fresh = started-facts h t s (S .sized) e (S .rules)
 
-      pub first-laid : (r : ℕ) → LaidRunning h t r (placeOf s) (firstWork h t lits s detail row .laid)
+      pub first-laid : (r : ℕ) → LaidRunning h t r (placeOf s) (firstWork h t chars s detail row .laid)
       unfolding firstWork
       first-laid r = first-placed h t r (A .pageFits) (theDetail h t detail) (placeOf s) (λ p. detail-is h t detail (R .named)) (ap (λ (x : State). x .page) fresh) (ap (λ (x : State). x .line) fresh)
 
-      pub first-stands : firstWork h t lits s detail row .laid .to .page ≤ lastPage → Stands h t lits (moved (firstWork h t lits s detail row) (firstWork h t lits s detail row .laid .to))
+      pub first-stands : firstWork h t chars s detail row .laid .to .page ≤ lastPage → Stands h t chars (moved (firstWork h t chars s detail row) (firstWork h t chars s detail row .laid .to))
       unfolding firstWork
       first-stands =
-          leaves-running (firstWork h t lits s detail row)
+          leaves-running (firstWork h t chars s detail row)
           (record {
             phase = refl;
             sums = first-good h t (A .countersIn .few) (s .sums) (rw fresh (zeros-good (h .counters))) row detail .sums;
@@ -160,16 +160,16 @@ module _ (h : Head) (t lits : List ℕ) (A : Accepted h t lits) where
       pub running-page : 1 ≤ s .page
       running-page = facts .first
 
-      pub last-laid : (r : ℕ) → LaidClosed h t r (placeOf s) (lastWork h t lits s .laid)
+      pub last-laid : (r : ℕ) → LaidClosed h t r (placeOf s) (lastWork h t chars s .laid)
       unfolding lastWork
       last-laid r = last-placed h t r (A .pageFits) (placeOf s) place
 
-      pub last-stands : lastWork h t lits s .laid .to .page ≤ lastPage → Stands h t lits (moved (lastWork h t lits s) (lastWork h t lits s .laid .to))
+      pub last-stands : lastWork h t chars s .laid .to .page ≤ lastPage → Stands h t chars (moved (lastWork h t chars s) (lastWork h t chars s .laid .to))
       unfolding lastWork
       last-stands l = record {
         accepted = A;
         rules =
-            idle-ok h t (moved (lastWork h t lits s) (lastWork h t lits s .laid .to)) refl
+            idle-ok h t (moved (lastWork h t chars s) (lastWork h t chars s .laid .to)) refl
             (record {
               first = omega (arith, last-laid 0 .pages, facts .first);
               last = l;
@@ -177,7 +177,7 @@ module _ (h : Head) (t lits : List ℕ) (A : Accepted h t lits) where
               small = omega (arith, last-laid 0 .saved, A .pageFits .ftPage, A .pageFits .page999);
               inRange = last-good h t (A .countersIn .few) (s .sums) good .sums .range;
             });
-        sized = record { sumsLong = last-good h t (A .countersIn .few) (s .sums) good .sums .long; flagsLong = flags-if (ltb (s .page) (lastWork h t lits s .laid .to .page)) (s .flags) flags-in .long; keptLong = S .sized .keptLong };
+        sized = record { sumsLong = last-good h t (A .countersIn .few) (s .sums) good .sums .long; flagsLong = flags-if (ltb (s .page) (lastWork h t chars s .laid .to .page)) (s .flags) flags-in .long; keptLong = S .sized .keptLong };
       }
 
       -- and a later row
@@ -185,39 +185,39 @@ module _ (h : Head) (t lits : List ℕ) (A : Accepted h t lits) where
         abbrev level : ℕ
         level = breakLevel h t (s .kept) row
 
-        pub later-laid : (r : ℕ) → LaidRunning h t r (placeOf s) (laterWork h t lits s detail row .laid)
+        pub later-laid : (r : ℕ) → LaidRunning h t r (placeOf s) (laterWork h t chars s detail row .laid)
         unfolding laterWork
         later-laid r = later-placed h t r (A .pageFits) level (theDetail h t detail) (placeOf s) (λ p. detail-is h t detail (R .named)) place
 
-        pub later-stands : laterWork h t lits s detail row .laid .to .page ≤ lastPage → Stands h t lits (moved (laterWork h t lits s detail row) (laterWork h t lits s detail row .laid .to))
+        pub later-stands : laterWork h t chars s detail row .laid .to .page ≤ lastPage → Stands h t chars (moved (laterWork h t chars s detail row) (laterWork h t chars s detail row .laid .to))
         unfolding laterWork
         later-stands =
-            leaves-running (laterWork h t lits s detail row)
+            leaves-running (laterWork h t chars s detail row)
             (record {
               phase = refl;
               sums = later-good h t (A .countersIn .few) (s .sums) good row detail level .sums;
-              flags = flags-cleared detail _ (flags-if (ltb (s .page) (laterWork h t lits s detail row .laid .to .page)) _ (flags-if (breaks h level) (s .flags) flags-in));
+              flags = flags-cleared detail _ (flags-if (ltb (s .page) (laterWork h t chars s detail row .laid .to .page)) _ (flags-if (breaks h level) (s .flags) flags-in));
               kept = by-cond KeptIn (breaks h level) (λ q. row-kept detail row R) (λ q. record { long = S .sized .keptLong; good = facts .formed; end = facts .beyondRow });
               place = later-laid 0 .running;
               page = omega (arith, later-laid 0 .pages, facts .first);
             })
 
   -- ---- whatever is asked
-  module _ (s : State) (S : Stands h t lits s) (out : List ℕ) where
-    settled-stands : (w : Work) → (w .laid .to .page ≤ lastPage → Stands h t lits (moved w (w .laid .to))) → Stands h t lits (settled h t s w out .answer .state)
-    settled-stands w f = each-settled h t s w out (λ r. Stands h t lits (r .answer .state)) (λ v l m. S) (λ o l q. f l)
+  module _ (s : State) (S : Stands h t chars s) (out : List ℕ) where
+    settled-stands : (w : Work) → (w .laid .to .page ≤ lastPage → Stands h t chars (moved w (w .laid .to))) → Stands h t chars (settled h t s w out .answer .state)
+    settled-stands w f = each-settled h t s w out (λ r. Stands h t chars (r .answer .state)) (λ v l m. S) (λ o l q. f l)
 
-    row-stands : (s .phase ≡ idle → ⊥) → (detail : ℕ) (row : List ℕ) → RowIn h t detail row → Stands h t lits (settled h t s (rowWork h t lits s detail row) out .answer .state)
+    row-stands : (s .phase ≡ idle → ⊥) → (detail : ℕ) (row : List ℕ) → RowIn h t detail row → Stands h t chars (settled h t s (rowWork h t chars s detail row) out .answer .state)
     row-stands n detail row R =
         by-test (eqb (s .phase) started)
-        (λ e. rw e (settled-stands (firstWork h t lits s detail row) (first-stands s S detail row R (eqb-true (s .phase) started e))))
-        (λ e. rw e (settled-stands (laterWork h t lits s detail row) (later-stands s S (by-phase h t s (S .rules) (λ q. absurd (n q)) (λ q. absurd (eqb-false (s .phase) started e q)) (λ q. q)) detail row R)))
+        (λ e. rw e (settled-stands (firstWork h t chars s detail row) (first-stands s S detail row R (eqb-true (s .phase) started e))))
+        (λ e. rw e (settled-stands (laterWork h t chars s detail row) (later-stands s S (by-phase h t s (S .rules) (λ q. absurd (n q)) (λ q. absurd (eqb-false (s .phase) started e q)) (λ q. q)) detail row R)))
 
-    pub call-stands : (a : Asked) (row : List ℕ) → Stands h t lits (callOn h t lits s a row out .answer .state)
-    call-stands = each-call h t lits s out (S .rules) (λ a row r. Stands h t lits (r .answer .state)) (record {
+    pub call-stands : (a : Asked) (row : List ℕ) → Stands h t chars (callOn h t chars s a row out .answer .state)
+    call-stands = each-call h t chars s out (S .rules) (λ a row r. Stands h t chars (r .answer .state)) (record {
       refused = λ a row v l m. S;
       begins = λ e row. begun-stands;
       row = row-stands;
       ends = λ e row. fresh-stands;
-      last = λ e row. settled-stands (lastWork h t lits s) (last-stands s S e);
+      last = λ e row. settled-stands (lastWork h t chars s) (last-stands s S e);
     })

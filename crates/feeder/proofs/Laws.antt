@@ -14,7 +14,7 @@ use Rattle.splice.specs.Splice.{splice}
 use Rattle.splice.proofs.Laws.{splice-then, length-splice}
 use Rattle.tables.specs.declared.Head.{Head}
 use Rattle.unpacked.specs.Head.{headOf}
-use Rattle.unpacked.specs.Table.{table, literals}
+use Rattle.unpacked.specs.Table.{table, characters}
 use Rattle.description.specs.declared.Checked.the-variants.{Accepted, Broken}
 use Rattle.description.specs.Check.{checked}
 use Rattle.accepted.specs.Accepted as facts
@@ -152,18 +152,18 @@ module _ (d : List ℕ) (e : checked d ≡ Accepted) where
   abbrev t : List ℕ
   t = table d
 
-  terminate-on : (s : State) (out : List ℕ) → report.terminate d s out ≡ calls.callOn h t (literals d) s asked.Terminate [] out
+  terminate-on : (s : State) (out : List ℕ) → report.terminate d s out ≡ calls.callOn h t (characters d) s asked.Terminate [] out
   unfolding report.call
   terminate-on s out = rw e refl
 
-  call-tables : (f : Feeder) (a : FeederCall) (chunk out : List ℕ) → callOn h t (rowUnder d (f .detail)) (report.terminate d (f .state) out) f a chunk out ≡ callOn h t (rowOn h t (literals d) (f .detail)) (calls.callOn h t (literals d) (f .state) asked.Terminate [] out) f a chunk out
+  call-tables : (f : Feeder) (a : FeederCall) (chunk out : List ℕ) → callOn h t (rowUnder d (f .detail)) (report.terminate d (f .state) out) f a chunk out ≡ callOn h t (rowOn h t (characters d) (f .detail)) (calls.callOn h t (characters d) (f .state) asked.Terminate [] out) f a chunk out
   call-tables f Initiate chunk out = refl
-  call-tables f Feed chunk out = ap (λ (x : Ran). unless f out (fedBy f chunk x) (tried h t f Feed)) (through-same (rowUnder d (f .detail)) (rowOn h t (literals d) (f .detail)) (row-on d e (f .detail)) (joined f chunk) (h .reclen) (f .state) out)
+  call-tables f Feed chunk out = ap (λ (x : Ran). unless f out (fedBy f chunk x) (tried h t f Feed)) (through-same (rowUnder d (f .detail)) (rowOn h t (characters d) (f .detail)) (row-on d e (f .detail)) (joined f chunk) (h .reclen) (f .state) out)
   call-tables f Terminate chunk out = ap (λ (y : Result). unless f out (endedIf f y out) (tried h t f Terminate)) (terminate-on (f .state) out)
 
 module _ (d : List ℕ) (f : Feeder) (a : FeederCall) (chunk out : List ℕ) (r : Fed) (new : List ℕ) where
-  pub call-so : {h : Head} {t lits : List ℕ} → checked d ≡ Accepted → h ≡ headOf d → t ≡ table d → lits ≡ literals d
-      → Feeds (callOn h t (rowOn h t lits (f .detail)) (calls.callOn h t lits (f .state) asked.Terminate [] out) f a chunk out) r new → Feeds (call d f a chunk out) r new
+  pub call-so : {h : Head} {t chars : List ℕ} → checked d ≡ Accepted → h ≡ headOf d → t ≡ table d → chars ≡ characters d
+      → Feeds (callOn h t (rowOn h t chars (f .detail)) (calls.callOn h t chars (f .state) asked.Terminate [] out) f a chunk out) r new → Feeds (call d f a chunk out) r new
   unfolding call
   call-so e eh et el x = rw (e, call-tables d e f a chunk out) (rw (eh, et, el) at x)
 

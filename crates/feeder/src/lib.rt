@@ -153,9 +153,9 @@ fn settle(f: Feeder, chunk: &[u8], bytes: &[u8], run: Run) -> Fed
 }
 
 // The records that a chunk finishes.
-fn feed_rows(t: &[u16], h: Head, lits: &[u8], f: Feeder, chunk: &[u8], out: &mut [u8]) -> Fed
-    requires { ⌜ Accepted h (now t) (now lits) × (f .held < h .reclen) × (length (now chunk) ≤ chunkMax) ⌝ }
-    ensures { λ r. ⌜ Feeds (fedBy f (now (chunk .entry)) (through (rowOn h (now (t .entry)) (now (lits .entry)) (f .detail)) (joined f (now (chunk .entry))) (h .reclen) (f .state) (now (out .entry)))) r (now (out .exit)) ⌝ }
+fn feed_rows(t: &[u16], h: Head, chars: &[u8], f: Feeder, chunk: &[u8], out: &mut [u8]) -> Fed
+    requires { ⌜ Accepted h (now t) (now chars) × (f .held < h .reclen) × (length (now chunk) ≤ chunkMax) ⌝ }
+    ensures { λ r. ⌜ Feeds (fedBy f (now (chunk .entry)) (through (rowOn h (now (t .entry)) (now (chars .entry)) (f .detail)) (joined f (now (chunk .entry))) (h .reclen) (f .state) (now (out .entry)))) r (now (out .exit)) ⌝ }
 {
     let s = f.state;
     let mut bytes = [0u8; JOINED_MAX];
@@ -163,7 +163,7 @@ fn feed_rows(t: &[u16], h: Head, lits: &[u8], f: Feeder, chunk: &[u8], out: &mut
     let run = stream::rows_on(
         t,
         h,
-        lits,
+        chars,
         s,
         f.detail,
         &bytes[..n],
@@ -187,16 +187,16 @@ fn begun(f: Feeder) -> Fed
 }
 
 // TERMINATE, where no bytes are held.
-fn ended(t: &[u16], h: Head, lits: &[u8], f: Feeder, out: &mut [u8]) -> Fed
-    requires { ⌜ Accepted h (now t) (now lits) ⌝ }
-    ensures { λ r. ⌜ Feeds (endedIf f (reportOn h (now (t .entry)) (now (lits .entry)) (f .state) Terminate [] (now (out .entry))) (now (out .entry))) r (now (out .exit)) ⌝ }
+fn ended(t: &[u16], h: Head, chars: &[u8], f: Feeder, out: &mut [u8]) -> Fed
+    requires { ⌜ Accepted h (now t) (now chars) ⌝ }
+    ensures { λ r. ⌜ Feeds (endedIf f (reportOn h (now (t .entry)) (now (chars .entry)) (f .state) Terminate [] (now (out .entry))) (now (out .entry))) r (now (out .exit)) ⌝ }
 {
     if f.held > 0 {
         return refusal(f, FeederVerdict::Unfinished(tables::wide(f.held)));
     }
     let s = f.state;
     let tail = f.tail;
-    let a = calls::call_on(t, h, lits, s, Asked::Terminate, b"", out);
+    let a = calls::call_on(t, h, chars, s, Asked::Terminate, b"", out);
     let v = a.verdict;
     let after = a.state;
     Fed {
@@ -231,14 +231,14 @@ fn tried(t: &[u16], h: Head, ok: bool, phase: u8, detail: usize, asked: FeederCa
 fn call_on(
     t: &[u16],
     h: Head,
-    lits: &[u8],
+    chars: &[u8],
     f: Feeder,
     asked: FeederCall,
     chunk: &[u8],
     out: &mut [u8],
 ) -> Fed
-    requires { ⌜ Accepted h (now t) (now lits) × (length (now chunk) ≤ chunkMax) ⌝ }
-    ensures { λ r. ⌜ Feeds (callOnSpec h (now (t .entry)) (rowOn h (now (t .entry)) (now (lits .entry)) (f .detail)) (reportOn h (now (t .entry)) (now (lits .entry)) (f .state) Terminate [] (now (out .entry))) f asked (now (chunk .entry)) (now (out .entry))) r (now (out .exit)) ⌝ }
+    requires { ⌜ Accepted h (now t) (now chars) × (length (now chunk) ≤ chunkMax) ⌝ }
+    ensures { λ r. ⌜ Feeds (callOnSpec h (now (t .entry)) (rowOn h (now (t .entry)) (now (chars .entry)) (f .detail)) (reportOn h (now (t .entry)) (now (chars .entry)) (f .state) Terminate [] (now (out .entry))) f asked (now (chunk .entry)) (now (out .entry))) r (now (out .exit)) ⌝ }
 {
     let s = f.state;
     let ok = state_rules::state_ok(t, h, s) & (f.held < h.reclen);
@@ -247,8 +247,8 @@ fn call_on(
         Tried::Refused(v) => refusal(f, FeederVerdict::Call(v)),
         Tried::Passed => match asked {
             FeederCall::Initiate => begun(f),
-            FeederCall::Feed => feed_rows(t, h, lits, f, chunk, out),
-            FeederCall::Terminate => ended(t, h, lits, f, out),
+            FeederCall::Feed => feed_rows(t, h, chars, f, chunk, out),
+            FeederCall::Terminate => ended(t, h, chars, f, out),
         },
     }
 }
@@ -269,7 +269,7 @@ fn call_in(
     let checked = description::check_in(d, h, t);
     match checked {
         Checked::Broken(rule) => refusal(f, FeederVerdict::Call(Verdict::Description(rule))),
-        Checked::Accepted => { call_on(t, h, description::literals_of(d), f, asked, chunk, out) }
+        Checked::Accepted => { call_on(t, h, description::characters_in(d, h), f, asked, chunk, out) }
     }
 }
 

@@ -15,7 +15,7 @@ use Rattle.verdict.specs.declared.Verdict.the-variants as verdict
 use Rattle.verdict.specs.Verdict.{accepted}
 use Rattle.tables.specs.declared.Head.{Head}
 use Rattle.unpacked.specs.Head.{headOf}
-use Rattle.unpacked.specs.Table.{table, literals}
+use Rattle.unpacked.specs.Table.{table, characters}
 use Rattle.lookup.specs.Find.{theDetail}
 use Rattle.description.specs.declared.Checked.the-variants.{Accepted}
 use Rattle.description.specs.Check.{checked}
@@ -64,15 +64,15 @@ module _ (d : List ℕ) (a : checked d ≡ Accepted) where
   abbrev t : List ℕ
   t = table d
 
-  abbrev lits : List ℕ
-  lits = literals d
+  abbrev chars : List ℕ
+  chars = characters d
 
-  A : facts.Accepted h t lits
+  A : facts.Accepted h t chars
   A = accept d a
 
   -- what is carried from call to call: the report's state stands, less than a record is held, and the tail has its size
   pub record Keeps (f : Feeder) : Type 0 where
-    pub stands : Stands h t lits (f .state)
+    pub stands : Stands h t chars (f .state)
     pub few : f .held < h .reclen
     pub long : length (f .tail) ≡ keptSize
 
@@ -85,11 +85,11 @@ module _ (d : List ℕ) (a : checked d ≡ Accepted) where
     pub keeps : Keeps (r .fed .feeder)
 
   -- a feeder that holds nothing
-  holds-none : (s : State) → Stands h t lits s → (detail : ℕ) → Keeps (holding s detail [])
+  holds-none : (s : State) → Stands h t chars s → (detail : ℕ) → Keeps (holding s detail [])
   holds-none s S detail = record { stands = S; few = omega (arith, A .record1); long = length-padded [] (omega arith) }
 
   pub fresh-keeps : (detail : ℕ) → Keeps (freshFeeder detail)
-  fresh-keeps detail = holds-none (freshAt idle) (fresh-stands h t lits A) detail
+  fresh-keeps detail = holds-none (freshAt idle) (fresh-stands h t chars A) detail
 
   module _ (f : Feeder) (K : Keeps f) where
     -- a refusal of the feeder's own
@@ -119,7 +119,7 @@ module _ (d : List ℕ) (a : checked d ≡ Accepted) where
     initiates =
         let u : Use = record { call = book.initiate; out = [] } in
         by-test (eqb (f .state .phase) idle)
-        (λ e. let K' = holds-none (freshAt started) (begun-stands h t lits A) (f .detail) in
+        (λ e. let K' = holds-none (freshAt started) (begun-stands h t chars A) (f .detail) in
         rw (a, K .stands .rules, few-is, e) (same u (tables.begun []) (rw (a, K .stands .rules, e) refl) (inl refl) (holding (freshAt started) (f .detail) []) refl K'))
         (λ e. rw (a, K .stands .rules, few-is, e) (same u (answer.refuse (f .state) [] verdict.Phase) (rw (a, K .stands .rules, e) refl) (inr (omega arith, omega arith)) f refl K))
 
@@ -131,9 +131,9 @@ module _ (d : List ℕ) (a : checked d ≡ Accepted) where
       abbrev ended : Feeder
       ended = record { state = last .answer .state; detail = f .detail; tail = f .tail; held = f .held }
 
-      last-stands : Stands h t lits (last .answer .state)
+      last-stands : Stands h t chars (last .answer .state)
       unfolding report.call
-      last-stands = rw a (call-stands h t lits A (f .state) (K .stands) out Terminate [])
+      last-stands = rw a (call-stands h t chars A (f .state) (K .stands) out Terminate [])
 
       idle-last : eqb (f .state .phase) idle ≡ true → last ≡ answer.refuse (f .state) out verdict.Phase
       unfolding report.call tables.callOn

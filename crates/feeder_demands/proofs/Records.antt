@@ -12,7 +12,7 @@ use lib.Seq.{length-take-le, take-append-add}
 use Rattle.counts.proofs.Laws.{by-test, by-cond, and-l}
 use Rattle.tables.specs.declared.Head.{Head}
 use Rattle.unpacked.specs.Head.{headOf}
-use Rattle.unpacked.specs.Table.{table, literals}
+use Rattle.unpacked.specs.Table.{table, characters}
 use Rattle.description.specs.declared.Checked.the-variants.{Accepted}
 use Rattle.description.specs.Check.{checked}
 use Rattle.accepted.proofs.Accept.{accepted as accept}
@@ -42,7 +42,7 @@ abbrev pub Fine : Verdict → Type 0
 Fine v = (number v ≡ 0) ⊎ (3 ≤ number v) × (number v ≤ 9)
 
 -- whatever is asked, on a state that stands
-pub call-fine : (d : List ℕ) → checked d ≡ Accepted → (s : State) → Stands (headOf d) (table d) (literals d) s → (o : List ℕ) (k : Asked) (row : List ℕ)
+pub call-fine : (d : List ℕ) → checked d ≡ Accepted → (s : State) → Stands (headOf d) (table d) (characters d) s → (o : List ℕ) (k : Asked) (row : List ℕ)
     → Fine (report.call d s k row o .answer .verdict)
 unfolding report.call
 call-fine d a s S o k row =
@@ -50,12 +50,12 @@ call-fine d a s S o k row =
     let t = table d in
     let settles : (w : Work) → Fine (settled h t s w o .answer .verdict) = λ w. each-settled h t s w o (λ r. Fine (r .answer .verdict)) (λ v l m. inr (omega arith, m)) (λ e l m. inl refl) in
     rw a
-    (each-call h t (literals d) s o (S .rules) (λ k row r. Fine (r .answer .verdict)) (record {
+    (each-call h t (characters d) s o (S .rules) (λ k row r. Fine (r .answer .verdict)) (record {
       refused = λ k row v l m. inr (l, omega arith);
       begins = λ e row. inl refl;
-      row = λ n detail row R. settles (rowWork h t (literals d) s detail row);
+      row = λ n detail row R. settles (rowWork h t (characters d) s detail row);
       ends = λ e row. inl refl;
-      last = λ e row. settles (lastWork h t (literals d) s);
+      last = λ e row. settles (lastWork h t (characters d) s);
     }) k row)
 
 module _ (d : List ℕ) (a : checked d ≡ Accepted) (detail : ℕ) (rows : List ℕ) (size : ℕ) where
@@ -113,10 +113,10 @@ module _ (d : List ℕ) (a : checked d ≡ Accepted) (detail : ℕ) (rows : List
         let y = rowUnder d detail s row o in
         ⊎-elim (λ (w : Works d s (generate detail row) o y). omega (arith, w .room, w .size)) (λ (r : Refuses s o y). omega (arith, r .count)) (whole d s o (generate detail row))
 
-    module _ (S : Stands h t (literals d) s) where
-      row-stands : Stands h t (literals d) (rowUnder d detail s row o .answer .state)
+    module _ (S : Stands h t (characters d) s) where
+      row-stands : Stands h t (characters d) (rowUnder d detail s row o .answer .state)
       unfolding report.call
-      row-stands = rw a (call-stands h t (literals d) (accept d a) s S o (Generate detail) row)
+      row-stands = rw a (call-stands h t (characters d) (accept d a) s S o (Generate detail) row)
 
       row-fine : Fine (rowUnder d detail s row o .answer .verdict)
       row-fine = call-fine d a s S o (Generate detail) row
@@ -161,7 +161,7 @@ module _ (d : List ℕ) (a : checked d ≡ Accepted) (detail : ℕ) (rows : List
   module _ (sized : 1 ≤ size) where
     -- what a run from the state s keeps
     pub record Good (s : State) (x : Ran) : Type 0 where
-      pub stands : Stands h t (literals d) (x .run .state)
+      pub stands : Stands h t (characters d) (x .run .state)
       pub fine : Fine (x .run .verdict)
       pub inside : x .run .count ≤ length (x .out)
       pub untouched : x .run .done ≡ 0 → x .run .state ≡ s

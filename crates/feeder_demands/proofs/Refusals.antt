@@ -16,7 +16,7 @@ use Rattle.verdict.specs.declared.Verdict.the-variants as verdict
 use Rattle.verdict.specs.Verdict.{number, accepted}
 use Rattle.tables.specs.declared.Head.{Head}
 use Rattle.unpacked.specs.Head.{headOf}
-use Rattle.unpacked.specs.Table.{table, literals}
+use Rattle.unpacked.specs.Table.{table, characters}
 use Rattle.lookup.specs.Find.{theDetail}
 use Rattle.description.specs.declared.Checked.{Checked}
 use Rattle.description.specs.declared.Checked.the-variants.{Accepted, Broken}
@@ -94,23 +94,23 @@ module _ (d : List ℕ) where
   abbrev t : List ℕ
   t = table d
 
-  abbrev lits : List ℕ
-  lits = literals d
+  abbrev chars : List ℕ
+  chars = characters d
 
   -- ---- the records of a chunk that passed the tests
   module _ (a : checked d ≡ Accepted) (detail : ℕ) (named : ltb (theDetail h t detail) (h .groups) ≡ true) where
-    module _ (s : State) (S : Stands h t lits s) (on : eqb (s .phase) idle ≡ false) (row o : List ℕ) where
+    module _ (s : State) (S : Stands h t chars s) (on : eqb (s .phase) idle ≡ false) (row o : List ℕ) where
       goes-refused : (v : Verdict) → 6 ≤ number v → number v ≤ 9 → Goes (refuse s o v)
       goes-refused v l m = record { late = inr (l, m); busy = on }
 
       goes-settled : (w : Work) → eqb (w .phase) idle ≡ false → Goes (settled h t s w o)
       goes-settled w b = each-settled h t s w o Goes (λ v l m. goes-refused v (omega arith) m) (λ e l m. record { late = inl refl; busy = b })
 
-      goes-work : Goes (settled h t s (rowWork h t lits s detail row) o)
+      goes-work : Goes (settled h t s (rowWork h t chars s detail row) o)
       unfolding firstWork laterWork
-      goes-work = by-cond (λ (w : Work). Goes (settled h t s w o)) (eqb (s .phase) started) (λ e. goes-settled (firstWork h t lits s detail row) refl) (λ e. goes-settled (laterWork h t lits s detail row) refl)
+      goes-work = by-cond (λ (w : Work). Goes (settled h t s w o)) (eqb (s .phase) started) (λ e. goes-settled (firstWork h t chars s detail row) refl) (λ e. goes-settled (laterWork h t chars s detail row) refl)
 
-      goes-tried : (x : Tried) → by6 x ≡ 6 → Goes (tables.unless s o (settled h t s (rowWork h t lits s detail row) o) x)
+      goes-tried : (x : Tried) → by6 x ≡ 6 → Goes (tables.unless s o (settled h t s (rowWork h t chars s detail row) o) x)
       goes-tried Passed e = goes-work
       goes-tried (Refused v) e = goes-refused v (omega arith) (omega arith)
 
@@ -139,7 +139,7 @@ module _ (d : List ℕ) where
 
       -- what a run keeps
       record Kept (x : Ran) : Type 0 where
-        stands : Stands h t lits (x .run .state)
+        stands : Stands h t chars (x .run .state)
         busy : eqb (x .run .state .phase) idle ≡ false
         late : Late (x .run .verdict)
         none : x .run .done ≡ 0 → (x .run .count ≡ 0) × (x .out ≡ out)
@@ -186,7 +186,7 @@ module _ (d : List ℕ) where
           kept-further : Kept (further size x y)
           unfolding report.call
           kept-further = record {
-            stands = rw a (call-stands h t lits (accept d a) (x .run .state) (K .stands) (outAt x) (Generate detail) (rowAt x));
+            stands = rw a (call-stands h t chars (accept d a) (x .run .state) (K .stands) (outAt x) (Generate detail) (rowAt x));
             busy = row-goes .busy;
             late = row-goes .late;
             none = λ q. absurd (omega (arith, goes-sized (rowUnder d detail) rows size x g));
@@ -195,7 +195,7 @@ module _ (d : List ℕ) where
             rest = further-rest;
           }
 
-      kept : Stands h t lits s → eqb (s .phase) idle ≡ false → Kept (through (rowUnder d detail) rows size s out)
+      kept : Stands h t chars s → eqb (s .phase) idle ≡ false → Kept (through (rowUnder d detail) rows size s out)
       unfolding through
       kept S on =
           ran-keeps (rowUnder d detail) rows size Kept kept-further (λ x K g e. kept-halted x K g) (length rows) (begun s out)
@@ -233,7 +233,7 @@ module _ (d : List ℕ) where
     ok = feeder.feederOk h t f
 
     -- what passing 1 and 2 says
-    stands : Typed f → checked d ≡ Accepted → ok ≡ true → Stands h t lits (f .state)
+    stands : Typed f → checked d ≡ Accepted → ok ≡ true → Stands h t chars (f .state)
     stands T a k = record { accepted = accept d a; rules = and-l _ (ltb (f .held) (h .reclen)) k; sized = T .state }
 
     -- ---- INITIATE
@@ -302,7 +302,7 @@ module _ (d : List ℕ) where
       abbrev u : FeederUse
       u = feed chunk out
 
-      A : facts.Accepted h t lits
+      A : facts.Accepted h t chars
       A = accept d a
 
       -- less than a record is held, inside the tail

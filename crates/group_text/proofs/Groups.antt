@@ -47,11 +47,11 @@ module _ (f : ℕ → List ℕ) where
       length-append (f k) (joinFrom n (k + 1) f) ∙ rw suc-mul (omega arith)
 
 -- of a group's lines
-pub line-in : {h : Head} {t lits : List ℕ} → ItemsIn h t lits → (g k : ℕ) → g < h .groups → k < lineCount h t g → LineIn h t lits (firstLine h t g + k)
+pub line-in : {h : Head} {t chars : List ℕ} → ItemsIn h t chars → (g k : ℕ) → g < h .groups → k < lineCount h t g → LineIn h t chars (firstLine h t g + k)
 line-in s g k l m = record { sized = s .sized; each = λ i b. s .each g k i l m b }
 
 -- "lines times W + 10", and the prefix
-pub length-groupBytes : (h : Head) (t : List ℕ) (inp : Inputs) (v : View) (g : ℕ) → ItemsIn h t (inp .lits) → Short (v .prefix) → g < h .groups
+pub length-groupBytes : (h : Head) (t : List ℕ) (inp : Inputs) (v : View) (g : ℕ) → ItemsIn h t (inp .chars) → Short (v .prefix) → g < h .groups
     → length (groupBytes h t inp v g) ≡ lineCount h t g * recordSize (v .prefix) (h .width)
 unfolding groupBytes
 length-groupBytes h t inp v g s p l =

@@ -9,7 +9,7 @@ use Rattle.line_text.specs.Facts.{ItemsIn, Readable}
 
 -- group g can be printed from a line of a page on
 pub record GroupReady (h : Head) (t : List ℕ) (inp : Inputs) (v : View) (g : ℕ) : Type 0 where
-  pub items : ItemsIn h t (inp .lits)
+  pub items : ItemsIn h t (inp .chars)
   pub readable : Readable h t inp
   pub prefix : Short (v .prefix)
   pub group : g < h .groups

@@ -20,15 +20,15 @@ pub struct Print {
 pub fn print_group<'a>(
     t: &[u16],
     h: Head,
-    lits: &[u8],
+    chars: &[u8],
     kept: &'a [u8],
     row: &'a [u8],
     sums: &[i64],
     p: Print,
     out: &mut [u8],
 ) -> usize
-    requires { ⌜ GroupReady h (now t) (inputs (now lits) (now kept) (now row) (now sums)) (p .first) (p .group) × (p .at + length (groupBytes h (now t) (inputs (now lits) (now kept) (now row) (now sums)) (p .first) (p .group)) ≤ length (now out)) ⌝ }
-    ensures { λ r. ⌜ Wrote (now (out .entry)) (p .at) (groupBytes h (now (t .entry)) (inputs (now (lits .entry)) (now (kept .entry)) (now (row .entry)) (now (sums .entry))) (p .first) (p .group)) (now (out .exit)) r ⌝ }
+    requires { ⌜ GroupReady h (now t) (inputs (now chars) (now kept) (now row) (now sums)) (p .first) (p .group) × (p .at + length (groupBytes h (now t) (inputs (now chars) (now kept) (now row) (now sums)) (p .first) (p .group)) ≤ length (now out)) ⌝ }
+    ensures { λ r. ⌜ Wrote (now (out .entry)) (p .at) (groupBytes h (now (t .entry)) (inputs (now (chars .entry)) (now (kept .entry)) (now (row .entry)) (now (sums .entry))) (p .first) (p .group)) (now (out .exit)) r ⌝ }
 {
     let first = p.first;
     let start = tables::group_num(t, h, p.group, 2);
@@ -44,7 +44,7 @@ pub fn print_group<'a>(
             view,
             at: to,
         };
-        to = line_text::put_line(t, h, lits, kept, row, sums, x, out);
+        to = line_text::put_line(t, h, chars, kept, row, sums, x, out);
         line += tables::line_num(t, h, start + 1 + k, 1) as u64;
         k += 1;
     }

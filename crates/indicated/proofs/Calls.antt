@@ -11,7 +11,7 @@ use lib.ListN.{getD}
 use Rattle.counts.proofs.Laws.{by-test}
 use Rattle.tables.specs.declared.Head.{Head}
 use Rattle.unpacked.specs.Head.{headOf}
-use Rattle.unpacked.specs.Table.{table, literals}
+use Rattle.unpacked.specs.Table.{table, characters}
 use Rattle.lookup.specs.Find.{details}
 use Rattle.description.specs.declared.Checked.the-variants.{Accepted}
 use Rattle.description.specs.Check.{checked}
@@ -52,8 +52,8 @@ module _ (d : List ℕ) where
   abbrev t : List ℕ
   t = table d
 
-  abbrev lits : List ℕ
-  lits = literals d
+  abbrev chars : List ℕ
+  chars = characters d
 
   -- what is carried from call to call
   abbrev pub Follows : State → Shown → Type 0
@@ -64,7 +64,7 @@ module _ (d : List ℕ) where
     pub flag : taken d r ≡ true → FlagDue d b p c reading
     pub next : Follows (r .answer .state) (cond (taken d r) (shownAfter h t b c p) p)
 
-  module _ (accepts : checked d ≡ Accepted) (A : facts.Accepted h t lits) (s : State) (b : Book) (p : Shown) (T : Tracks d accepts A s b)
+  module _ (accepts : checked d ≡ Accepted) (A : facts.Accepted h t chars) (s : State) (b : Book) (p : Shown) (T : Tracks d accepts A s b)
       (F : Follows s p) (out : List ℕ) where
     -- a refusal changes nothing
     refused-step : (c : Call) (reading : Reading) (v : Verdict) → 3 ≤ number v → Step b p c reading (refuse s out v)
@@ -90,43 +90,43 @@ module _ (d : List ℕ) where
               next = λ z. rw (left, page) (reads-cleared h t (A .details8) counted r');
             })
 
-      first-step : s .phase ≡ started → Step b p (generate detail row) (firstWork h t lits s detail row .inputs) (settled h t s (firstWork h t lits s detail row) out)
+      first-step : s .phase ≡ started → Step b p (generate detail row) (firstWork h t chars s detail row .inputs) (settled h t s (firstWork h t chars s detail row) out)
       unfolding firstWork
       first-step e =
           let page1 : s .page ≡ 1 = ap (λ (x : State). x .page) (started-facts h t s (T .stands .sized) e (T .stands .rules)) in
-          row-done (firstWork h t lits s detail row) (flagsSet (details h t))
+          row-done (firstWork h t chars s detail row) (flagsSet (details h t))
           (sym (flagsSet-within (details h t) detail counted (omega (arith, counted, A .details8)))) refl (rw (T .begins e, T .place) refl)
-          (rw (T .begins e) (reads-set h t (A .details8) nowhere _ (λ i. omega (arith, first-laid h t lits A s (T .stands) detail row R e 0 .pages))))
+          (rw (T .begins e) (reads-set h t (A .details8) nowhere _ (λ i. omega (arith, first-laid h t chars A s (T .stands) detail row R e 0 .pages))))
 
       -- the book finds the break against its own row
-      later-step : s .phase ≡ running → Step b p (generate detail row) (laterWork h t lits s detail row .inputs) (settled h t s (laterWork h t lits s detail row) out)
+      later-step : s .phase ≡ running → Step b p (generate detail row) (laterWork h t chars s detail row .inputs) (settled h t s (laterWork h t chars s detail row) out)
       unfolding laterWork
       later-step e =
           let level = breakLevel h t (s .kept) row in
-          let found = flagsTurned h t (s .page) (laterWork h t lits s detail row .laid .to .page) (flagsAt h t level (s .flags)) in
-          row-done (laterWork h t lits s detail row) found refl refl (rw (T .goes e .1, T .place, ← break-values row (T .goes e .2)) refl)
+          let found = flagsTurned h t (s .page) (laterWork h t chars s detail row .laid .to .page) (flagsAt h t level (s .flags)) in
+          row-done (laterWork h t chars s detail row) found refl refl (rw (T .goes e .1, T .place, ← break-values row (T .goes e .2)) refl)
           (rw (T .goes e .1, ← break-values row (T .goes e .2))
-          (reads-turned h t (A .details8) {p = cond (breaks h level) nowhere p} (later-laid h t lits A s (T .stands) e detail row R 0 .pages)
-          (reads-break h t (A .details8) (breaks h level) (running-page h t lits A s (T .stands) e) (F e))))
+          (reads-turned h t (A .details8) {p = cond (breaks h level) nowhere p} (later-laid h t chars A s (T .stands) e detail row R 0 .pages)
+          (reads-break h t (A .details8) (breaks h level) (running-page h t chars A s (T .stands) e) (F e))))
 
-      row-step : Step b p (generate detail row) (rowWork h t lits s detail row .inputs) (settled h t s (rowWork h t lits s detail row) out)
+      row-step : Step b p (generate detail row) (rowWork h t chars s detail row .inputs) (settled h t s (rowWork h t chars s detail row) out)
       row-step =
           by-test (eqb (s .phase) started)
           (λ e. rw e (first-step (eqb-true (s .phase) started e)))
           (λ e. rw e (later-step (by-phase h t s (T .stands .rules) (λ q. absurd (busy q)) (λ q. absurd (eqb-false (s .phase) started e q)) (λ q. q))))
 
     -- ---- INITIATE and TERMINATE leave nothing to show
-    last-step : Step b p terminate (reads d s terminate) (settled h t s (lastWork h t lits s) out)
+    last-step : Step b p terminate (reads d s terminate) (settled h t s (lastWork h t chars s) out)
     unfolding lastWork
     last-step =
-        each-settled h t s (lastWork h t lits s) out (Step b p terminate (reads d s terminate)) (λ v l m. refused-step terminate (reads d s terminate) v (omega arith))
+        each-settled h t s (lastWork h t chars s) out (Step b p terminate (reads d s terminate)) (λ v l m. refused-step terminate (reads d s terminate) v (omega arith))
         (λ o l q. record { flag = λ z. tt; next = λ z. absurd (omega arith) })
 
     asked-step : (a : Asked) (row : List ℕ) → Step b p (callOf a row) (reads d s (callOf a row)) (calls.call d s a row out)
     unfolding calls.call
     asked-step a row =
         rw accepts
-        (each-call h t lits s out (T .stands .rules) (λ a row. Step b p (callOf a row) (reads d s (callOf a row)))
+        (each-call h t chars s out (T .stands .rules) (λ a row. Step b p (callOf a row) (reads d s (callOf a row)))
         (record {
           refused = λ a row v l m. refused-step (callOf a row) (reads d s (callOf a row)) v l;
           begins = λ e row. record { flag = λ z. tt; next = λ z. absurd (omega arith) };

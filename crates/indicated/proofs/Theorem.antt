@@ -5,7 +5,7 @@ use mathlib.Core.Path.{_≡_}
 use mathlib.Core.List.{List, [], _∷_}
 use native.Mathlib.Omega.{arith}
 use Rattle.unpacked.specs.Head.{headOf}
-use Rattle.unpacked.specs.Table.{table, literals}
+use Rattle.unpacked.specs.Table.{table, characters}
 use Rattle.description.specs.declared.Checked.the-variants.{Accepted}
 use Rattle.description.specs.Check.{checked}
 use Rattle.accepted.specs.Accepted as facts
@@ -19,7 +19,7 @@ use Rattle.indicated.specs.Shown.{Shown, nowhere}
 use Rattle.indicated.specs.Claim.{Indicated}
 use Rattle.indicated.proofs.Calls.{Follows, call-step}
 
-module _ (d : List ℕ) (accepts : checked d ≡ Accepted) (A : facts.Accepted (headOf d) (table d) (literals d)) where
+module _ (d : List ℕ) (accepts : checked d ≡ Accepted) (A : facts.Accepted (headOf d) (table d) (characters d)) where
   all-indicated : (us : List Use) (s : State) (b : Book) (p : Shown) → Tracks d accepts A s b → Follows d s p → Indicated d b p (run d s us)
   unfolding run
   all-indicated [] s b p T F = tt

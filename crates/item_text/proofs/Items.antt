@@ -24,7 +24,7 @@ module _ (t : List ℕ) (inp : Inputs) (v : View) (x : Item) where
       (λ e. length-numberField (numberOf (fieldPart t rec (x .index))) (x .decimals) (x .width))
       (λ e. length-alignLeft (x .width) (fieldPart t rec (x .index)))
 
-  length-sourceText : (x .kind ≡ 0 → x .index + x .width ≤ length (inp .lits)) → length (sourceText t inp v x) ≡ x .width
+  length-sourceText : (x .kind ≡ 0 → x .index + x .width ≤ length (inp .chars)) → length (sourceText t inp v x) ≡ x .width
   unfolding sourceText
   length-sourceText s =
       let long : List ℕ → Type 0 = λ (l : List ℕ). length l ≡ x .width in
@@ -34,7 +34,7 @@ module _ (t : List ℕ) (inp : Inputs) (v : View) (x : Item) where
       (λ _. by-cond long (eqb (x .kind) 3) (λ _. length-numberField (pos (v .line)) 0 (x .width))
       (λ _. length-numberField (getD (inp .sums) (x .index) (pos 0)) (x .decimals) (x .width)))))
 
-  pub length-itemText : (x .kind ≡ 0 → x .index + x .width ≤ length (inp .lits)) → length (itemText t inp v x) ≡ x .width
+  pub length-itemText : (x .kind ≡ 0 → x .index + x .width ≤ length (inp .chars)) → length (itemText t inp v x) ≡ x .width
   unfolding itemText
   length-itemText s =
       by-cond (λ (l : List ℕ). length l ≡ x .width) (hidden v x) (λ e. length-replicate (x .width) 32) (λ e. length-sourceText s)

@@ -19,7 +19,7 @@ pub record Fits (x : Item) (text : List ℕ) : Type 0 where
 pub record ItemReady (t : List ℕ) (inp : Inputs) (v : View) (x : Item) (text : List ℕ) : Type 0 where
   pub fits : Fits x text
   pub kind : x .kind ≤ sourceSum
-  pub literal : x .kind ≡ sourceLiteral → x .index + x .width ≤ length (inp .lits)
+  pub literal : x .kind ≡ sourceLiteral → x .index + x .width ≤ length (inp .chars)
   pub field : x .kind ≡ sourceField → x .index < 65536 → FieldFormed t (applied inp v) (x .index)
   pub sum : x .kind ≡ sourceSum → x .index < length (inp .sums)
   pub number : v .line < 68719476736

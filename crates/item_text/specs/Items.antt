@@ -16,13 +16,13 @@ use Rattle.item_text.specs.declared.View.{View}
 
 -- what items read besides the tables: the literal bytes, the kept record, the record in hand, and the sums as their footings show them
 pub record Inputs : Type 0 where
-  pub lits : List ℕ
+  pub chars : List ℕ
   pub kept : List ℕ
   pub row : List ℕ
   pub sums : List ℤ
 
 abbrev pub inputs : List ℕ → List ℕ → List ℕ → List ℤ → Inputs
-inputs lits kept row sums = record { lits = lits; kept = kept; row = row; sums = sums }
+inputs chars kept row sums = record { chars = chars; kept = kept; row = row; sums = sums }
 
 -- "Control footings, and all that TERMINATE prints, read fields from the kept record; other groups read the record in hand."
 abbrev pub applied : Inputs → View → List ℕ
@@ -37,7 +37,7 @@ onLine v line = onPage v (v .page) line
 
 -- a literal: as many bytes as the item is wide, from an offset on
 abbrev pub literalText : List ℕ → Item → List ℕ
-literalText lits x = take (x .width) (drop (x .index) lits)
+literalText chars x = take (x .width) (drop (x .index) chars)
 
 -- "Text is left-aligned, cut or padded. Numbers are right-aligned, ..": a field of a record
 unfoldable pub fieldText : List ℕ → List ℕ → Item → List ℕ
@@ -57,7 +57,7 @@ sumText sums x = numberField (getD sums (x .index) (pos 0)) (x .decimals) (x .wi
 -- by source kind: "0 literal, 1 field, 2 page counter, 3 line counter, 4 sum". "A line counter item shows its own line's number."
 unfoldable pub sourceText : List ℕ → Inputs → View → Item → List ℕ
 sourceText t inp v x =
-    cond (eqb (x .kind) sourceLiteral) (literalText (inp .lits) x)
+    cond (eqb (x .kind) sourceLiteral) (literalText (inp .chars) x)
     (cond (eqb (x .kind) sourceField) (fieldText t (applied inp v) x)
     (cond (eqb (x .kind) sourcePage) (counterText (v .page) x)
     (cond (eqb (x .kind) sourceLine) (counterText (v .line) x)

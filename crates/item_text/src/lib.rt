@@ -41,13 +41,13 @@ pub fn on_line(v: View, line: u64) -> View
 }
 
 // Puts literal bytes into a line buffer.
-fn put_literal(lits: &[u8], x: Item, text: &mut [u8])
-    requires { ⌜ Fits x (now text) × (x .index + x .width ≤ length (now lits)) ⌝ }
-    ensures { λ _. ⌜ now (text .exit) ≡ atColumn x (literalText (now (lits .entry)) x) (now (text .entry)) ⌝ }
+fn put_literal(chars: &[u8], x: Item, text: &mut [u8])
+    requires { ⌜ Fits x (now text) × (x .index + x .width ≤ length (now chars)) ⌝ }
+    ensures { λ _. ⌜ now (text .exit) ≡ atColumn x (literalText (now (chars .entry)) x) (now (text .entry)) ⌝ }
 {
     let offset = x.index as usize;
     splice::copy(
-        &lits[offset..],
+        &chars[offset..],
         x.width as usize,
         x.column as usize - 1,
         text,
@@ -105,7 +105,7 @@ fn put_sum(sums: &[i64], x: Item, text: &mut [u8])
 // Puts what an item shows, by its source kind.
 fn put_source<'a>(
     t: &[u16],
-    lits: &[u8],
+    chars: &[u8],
     kept: &'a [u8],
     row: &'a [u8],
     sums: &[i64],
@@ -113,12 +113,12 @@ fn put_source<'a>(
     x: Item,
     text: &mut [u8],
 )
-    requires { ⌜ ItemReady (now t) (inputs (now lits) (now kept) (now row) (now sums)) v x (now text) ⌝ }
-    ensures { λ _. ⌜ now (text .exit) ≡ atColumn x (sourceText (now (t .entry)) (inputs (now (lits .entry)) (now (kept .entry)) (now (row .entry)) (now (sums .entry))) v x) (now (text .entry)) ⌝ }
+    requires { ⌜ ItemReady (now t) (inputs (now chars) (now kept) (now row) (now sums)) v x (now text) ⌝ }
+    ensures { λ _. ⌜ now (text .exit) ≡ atColumn x (sourceText (now (t .entry)) (inputs (now (chars .entry)) (now (kept .entry)) (now (row .entry)) (now (sums .entry))) v x) (now (text .entry)) ⌝ }
 {
     let kind = x.kind;
     match kind {
-        0 => put_literal(lits, x, text),
+        0 => put_literal(chars, x, text),
         1 => put_field(t, kept, row, v.from_kept, x, text),
         2 => put_counter(v.page as u64, x, text),
         3 => put_counter(v.line, x, text),
@@ -129,7 +129,7 @@ fn put_source<'a>(
 // Puts an item into a line buffer, at its column: what it shows, or blanks.
 pub fn put_item<'a>(
     t: &[u16],
-    lits: &[u8],
+    chars: &[u8],
     kept: &'a [u8],
     row: &'a [u8],
     sums: &[i64],
@@ -137,12 +137,12 @@ pub fn put_item<'a>(
     x: Item,
     text: &mut [u8],
 )
-    requires { ⌜ ItemReady (now t) (inputs (now lits) (now kept) (now row) (now sums)) v x (now text) ⌝ }
-    ensures { λ _. ⌜ now (text .exit) ≡ withItem (now (t .entry)) (inputs (now (lits .entry)) (now (kept .entry)) (now (row .entry)) (now (sums .entry))) v x (now (text .entry)) ⌝ }
+    requires { ⌜ ItemReady (now t) (inputs (now chars) (now kept) (now row) (now sums)) v x (now text) ⌝ }
+    ensures { λ _. ⌜ now (text .exit) ≡ withItem (now (t .entry)) (inputs (now (chars .entry)) (now (kept .entry)) (now (row .entry)) (now (sums .entry))) v x (now (text .entry)) ⌝ }
 {
     if (x.flag == 1) & !v.flag {
         splice::fill(b' ', x.width as usize, x.column as usize - 1, text);
     } else {
-        put_source(t, lits, kept, row, sums, v, x, text);
+        put_source(t, chars, kept, row, sums, v, x, text);
     }
 }

@@ -34,6 +34,6 @@ ownLineOk h t g k = lineItemsOk h t g (firstLine h t g + k)
 unfoldable pub groupItemsOk : Head → List ℕ → ℕ → Bool
 groupItemsOk h t g = allBelow (lineCount h t g) (ownLineOk h t g)
 
--- "literal bytes 32 to 126": every byte of the section, shown by an item or not; they are the first bytes of `lits`
+-- "literal bytes 32 to 126": every byte of the section, shown by an item or not; they are the first bytes of `chars`
 unfoldable pub ruleD7 : Head → List ℕ → List ℕ → Bool
-ruleD7 h t lits = allBelow (h .groups) (groupItemsOk h t) && allPrintable (h .literals) lits
+ruleD7 h t chars = allBelow (h .groups) (groupItemsOk h t) && allPrintable (h .literals) chars

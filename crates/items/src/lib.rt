@@ -156,10 +156,10 @@ fn all_items_ok(t: &[u16], h: Head) -> bool
 }
 
 // D7. After D5 and D6 the loops turn once for each line and item.
-pub fn rule_d7(t: &[u16], h: Head, lits: &[u8]) -> Rule
-    ensures { λ r. ⌜ r ≡ ruled (ruleD7 h (now (t .entry)) (now (lits .entry))) ⌝ }
+pub fn rule_d7(t: &[u16], h: Head, chars: &[u8]) -> Rule
+    ensures { λ r. ⌜ r ≡ ruled (ruleD7 h (now (t .entry)) (now (chars .entry))) ⌝ }
 {
     let items = all_items_ok(t, h);
-    let literals = ascii::all_printable(lits, tables::wide(h.literals));
+    let literals = ascii::all_printable(chars, tables::wide(h.literals));
     file::rule_of(items & literals)
 }

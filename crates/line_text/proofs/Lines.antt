@@ -28,7 +28,7 @@ applied-formed r true = r .kept
 applied-formed r false = r .row
 
 -- an item of an accepted description is ready
-pub item-ready : (h : Head) (t : List ℕ) (inp : Inputs) (v : View) (x : Item) (text : List ℕ) → LineSize h (inp .lits) → ItemIn h x → Readable h t inp
+pub item-ready : (h : Head) (t : List ℕ) (inp : Inputs) (v : View) (x : Item) (text : List ℕ) → LineSize h (inp .chars) → ItemIn h x → Readable h t inp
     → v .line < 68719476736 → h .width ≤ length text → ItemReady t inp v x text
 item-ready h t inp v x text s i r n w = record {
   fits = record { column = i .column; inside = omega (arith, i .inside); decimals = i .decimals };
@@ -40,13 +40,13 @@ item-ready h t inp v x text s i r n w = record {
 }
 
 module _ (h : Head) (t : List ℕ) (inp : Inputs) (v : View) where
-  length-withItem : (x : Item) (text : List ℕ) → LineSize h (inp .lits) → ItemIn h x → h .width ≤ length text
+  length-withItem : (x : Item) (text : List ℕ) → LineSize h (inp .chars) → ItemIn h x → h .width ≤ length text
       → length (withItem t inp v x text) ≡ length text
   length-withItem x text s i r =
       let w = length-itemText t inp v x (λ k. omega (arith, i .literal k, s .literals)) in
       length-splice text (x .column - 1) (itemText t inp v x) (omega (arith, i .column, i .inside))
 
-  module _ (l : ℕ) (s : LineIn h t (inp .lits) l) where
+  module _ (l : ℕ) (s : LineIn h t (inp .chars) l) where
     pub length-lineText : length (lineText h t inp v l) ≡ lineMax
     unfolding lineText
     length-lineText =

@@ -23,18 +23,18 @@ pub record ItemIn (h : Head) (x : Item) : Type 0 where
   pub decimals : x .decimals ≤ 4
 
 -- D2: "W 1 to 132"; D1: the literal bytes are there
-pub record LineSize (h : Head) (lits : List ℕ) : Type 0 where
+pub record LineSize (h : Head) (chars : List ℕ) : Type 0 where
   pub width : h .width ≤ lineMax
-  pub literals : h .literals ≤ length lits
+  pub literals : h .literals ≤ length chars
 
 -- of every item of line l
-pub record LineIn (h : Head) (t lits : List ℕ) (l : ℕ) : Type 0 where
-  pub sized : LineSize h lits
+pub record LineIn (h : Head) (t chars : List ℕ) (l : ℕ) : Type 0 where
+  pub sized : LineSize h chars
   pub each : (m : ℕ) → m < itemCount h t l → ItemIn h (itemOf h t (firstItem h t l + m))
 
 -- of every item of every line of every group
-pub record ItemsIn (h : Head) (t lits : List ℕ) : Type 0 where
-  pub sized : LineSize h lits
+pub record ItemsIn (h : Head) (t chars : List ℕ) : Type 0 where
+  pub sized : LineSize h chars
   pub each : (g k m : ℕ) → g < h .groups → k < lineCount h t g → m < itemCount h t (firstLine h t g + k)
       → ItemIn h (itemOf h t (firstItem h t (firstLine h t g + k) + m))
 
@@ -46,7 +46,7 @@ pub record Readable (h : Head) (t : List ℕ) (inp : Inputs) : Type 0 where
 
 -- line l can be shown
 pub record LineReady (h : Head) (t : List ℕ) (inp : Inputs) (v : View) (l : ℕ) : Type 0 where
-  pub items : LineIn h t (inp .lits) l
+  pub items : LineIn h t (inp .chars) l
   pub readable : Readable h t inp
   pub number : v .line < 68719476736
   pub index : l < 1048576

@@ -21,15 +21,15 @@ pub struct Line {
 fn line_text<'a>(
     t: &[u16],
     h: Head,
-    lits: &[u8],
+    chars: &[u8],
     kept: &'a [u8],
     row: &'a [u8],
     sums: &[i64],
     v: View,
     l: usize,
 ) -> [u8; file::LINE_MAX]
-    requires { ⌜ LineReady h (now t) (inputs (now lits) (now kept) (now row) (now sums)) v l ⌝ }
-    ensures { λ r. ⌜ r ≡ lineText h (now (t .entry)) (inputs (now (lits .entry)) (now (kept .entry)) (now (row .entry)) (now (sums .entry))) v l ⌝ }
+    requires { ⌜ LineReady h (now t) (inputs (now chars) (now kept) (now row) (now sums)) v l ⌝ }
+    ensures { λ r. ⌜ r ≡ lineText h (now (t .entry)) (inputs (now (chars .entry)) (now (kept .entry)) (now (row .entry)) (now (sums .entry))) v l ⌝ }
 {
     let first = tables::line_num(t, h, l, 2);
     let n = tables::line_num(t, h, l, 3);
@@ -37,7 +37,7 @@ fn line_text<'a>(
     let mut m = 0;
     while m < n {
         let x = tables::item_of(t, h, first + m);
-        item_text::put_item(t, lits, kept, row, sums, v, x, &mut text);
+        item_text::put_item(t, chars, kept, row, sums, v, x, &mut text);
         m += 1;
     }
     text
@@ -47,19 +47,19 @@ fn line_text<'a>(
 pub fn put_line<'a>(
     t: &[u16],
     h: Head,
-    lits: &[u8],
+    chars: &[u8],
     kept: &'a [u8],
     row: &'a [u8],
     sums: &[i64],
     x: Line,
     out: &mut [u8],
 ) -> usize
-    requires { ⌜ LineReady h (now t) (inputs (now lits) (now kept) (now row) (now sums)) (x .view) (x .index) × (Short (x .view .prefix) × (x .at + length (lineBytes h (now t) (inputs (now lits) (now kept) (now row) (now sums)) (x .view) (x .index)) ≤ length (now out))) ⌝ }
-    ensures { λ r. ⌜ Wrote (now (out .entry)) (x .at) (lineBytes h (now (t .entry)) (inputs (now (lits .entry)) (now (kept .entry)) (now (row .entry)) (now (sums .entry))) (x .view) (x .index)) (now (out .exit)) r ⌝ }
+    requires { ⌜ LineReady h (now t) (inputs (now chars) (now kept) (now row) (now sums)) (x .view) (x .index) × (Short (x .view .prefix) × (x .at + length (lineBytes h (now t) (inputs (now chars) (now kept) (now row) (now sums)) (x .view) (x .index)) ≤ length (now out))) ⌝ }
+    ensures { λ r. ⌜ Wrote (now (out .entry)) (x .at) (lineBytes h (now (t .entry)) (inputs (now (chars .entry)) (now (kept .entry)) (now (row .entry)) (now (sums .entry))) (x .view) (x .index)) (now (out .exit)) r ⌝ }
 {
     let v = x.view;
     let prefix = v.prefix;
-    let text = line_text(t, h, lits, kept, row, sums, v, x.index);
+    let text = line_text(t, h, chars, kept, row, sums, v, x.index);
     let w = tables::wide(h.width);
     printed::put_record(prefix, v.page, v.line, w, &text, x.at, out)
 }

@@ -6,7 +6,7 @@ use Rattle.file.specs.Number.{num, bytesOfNumbers}
 use Rattle.file.specs.Rule.{ruled}
 use Rattle.file.specs.Sections.{ruleD1}
 use Rattle.unpacked.specs.Head.{headOf}
-use Rattle.unpacked.specs.Table.{table, literals}
+use Rattle.unpacked.specs.Table.{table, characters}
 use Rattle.lookup.specs.Find.{theGroup, details, theDetail}
 use Rattle.lookup.specs.Shared.{sharedOut}
 use Rattle.fields.specs.Page.{ruleD2}
@@ -29,7 +29,7 @@ use Rattle.marked.specs.Described.{sections, description}
 use Rattle.marked.specs.Marked.{cases, given, wanted}
 
 pub accepts : checked description ≡ Accepted
-unfolding description bytesOfNumbers allBelow sumBelow firstBelow listBelow joinBelow num ruled ruleD1 table literals theGroup details sharedOut ruleD2 fieldOk ruleD3 differs controlOk ruleD4 numbersOk alone ruleD5 span stepOk firstOk bodyFits groupFits linesOk ruleD6 lineItemsOk groupItemsOk ruleD7 ruleD8 from8 from7 from6 from5 from4 from3 judged checked
+unfolding description bytesOfNumbers allBelow sumBelow firstBelow listBelow joinBelow num ruled ruleD1 table characters theGroup details sharedOut ruleD2 fieldOk ruleD3 differs controlOk ruleD4 numbersOk alone ruleD5 span stepOk firstOk bodyFits groupFits linesOk ruleD6 lineItemsOk groupItemsOk ruleD7 ruleD8 from8 from7 from6 from5 from4 from3 judged checked
 accepts = refl
 
 -- the table read from the bytes once, and not anew for each number of it

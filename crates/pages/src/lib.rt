@@ -28,15 +28,15 @@ pub struct Job {
 pub fn call<'a>(
     t: &[u16],
     h: Head,
-    lits: &[u8],
+    chars: &[u8],
     kept: &'a [u8],
     row: &'a [u8],
     sums: &[i64],
     job: Job,
     out: &mut [u8],
 ) -> Outcome
-    requires { ⌜ Called h (now t) (job .plan) (job .pos) × (Measures h (now t) (job .plan) (job .pos) (job .measured) × Printable h (now t) (reading (now lits) (now kept) (now row) (now sums) (job .flag) (job .prefix))) ⌝ }
-    ensures { λ r. ⌜ Answered h (now (t .entry)) (reading (now (lits .entry)) (now (kept .entry)) (now (row .entry)) (now (sums .entry)) (job .flag) (job .prefix)) (layoutSpec h (now (t .entry)) (job .plan) (job .pos)) (now (out .entry)) (now (out .exit)) r ⌝ }
+    requires { ⌜ Called h (now t) (job .plan) (job .pos) × (Measures h (now t) (job .plan) (job .pos) (job .measured) × Printable h (now t) (reading (now chars) (now kept) (now row) (now sums) (job .flag) (job .prefix))) ⌝ }
+    ensures { λ r. ⌜ Answered h (now (t .entry)) (reading (now (chars .entry)) (now (kept .entry)) (now (row .entry)) (now (sums .entry)) (job .flag) (job .prefix)) (layoutSpec h (now (t .entry)) (job .plan) (job .pos)) (now (out .entry)) (now (out .exit)) r ⌝ }
 {
     let plan = job.plan;
     let pos = job.pos;
@@ -58,6 +58,6 @@ pub fn call<'a>(
         prefix,
         at: 0,
     };
-    call_text::print_call(t, h, lits, kept, row, sums, task, out);
+    call_text::print_call(t, h, chars, kept, row, sums, task, out);
     Outcome::Done(count, to)
 }

@@ -2,7 +2,7 @@
 use Prim.Native.Nat.{ℕ}
 use mathlib.Core.List.{List, []}
 use Rattle.unpacked.specs.Head.{headOf}
-use Rattle.unpacked.specs.Table.{table, literals}
+use Rattle.unpacked.specs.Table.{table, characters}
 use Rattle.description.specs.declared.Checked.{Checked}
 use Rattle.description.specs.declared.Checked.the-variants.{Accepted, Broken}
 use Rattle.description.specs.Check.{checked}
@@ -20,7 +20,7 @@ ifAccepted (Broken k) s out r = refuse s out (Description k)
 
 -- what is asked, under a description
 unfoldable pub call : List ℕ → State → Asked → List ℕ → List ℕ → Result
-call d s a row out = ifAccepted (checked d) s out (callOn (headOf d) (table d) (literals d) s a row out)
+call d s a row out = ifAccepted (checked d) s out (callOn (headOf d) (table d) (characters d) s a row out)
 
 abbrev pub initiate : List ℕ → State → List ℕ → Result
 initiate d s out = call d s Initiate [] out

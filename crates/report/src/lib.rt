@@ -34,7 +34,7 @@ fn call_in(
     match checked {
         Checked::Broken(rule) => answer::refusal(s, Verdict::Description(rule)),
         Checked::Accepted => {
-            calls::call_on(t, h, description::literals_of(d), s, asked, rec, out)
+            calls::call_on(t, h, description::characters_in(d, h), s, asked, rec, out)
         }
     }
 }

@@ -40,7 +40,7 @@ use Rattle.room.specs.Row.{Row, noRow, workRow, unlessRow, rowOf, putInt
 no-row-put : (s : State) (out : List ℕ) (v : Verdict) → refuse s out v ≡ putInto s out (noRow s v)
 no-row-put s out v = by-test (accepted v) (λ e. rw (e, le-ltb (length out) 0 (omega arith), splice-nil out 0) refl) (λ e. rw e refl)
 
-module _ (h : Head) (t lits : List ℕ) (A : Accepted h t lits) where
+module _ (h : Head) (t chars : List ℕ) (A : Accepted h t chars) where
   work-put : (s : State) (w : Work) → Shows h t w → (out : List ℕ) → settled h t s w out ≡ putInto s out (workRow h t s w)
   unfolding settled outcome written
   work-put s w x out =
@@ -57,17 +57,17 @@ module _ (h : Head) (t lits : List ℕ) (A : Accepted h t lits) where
   unless-put s out r x e Passed = e
   unless-put s out r x e (Refused v) = no-row-put s out v
 
-  row-shows : (s : State) (detail : ℕ) (row : List ℕ) → Shows h t (rowWork h t lits s detail row)
-  row-shows s detail row = by-test (eqb (s .phase) started) (λ e. rw e (first-shows h t lits A s detail row)) (λ e. rw e (later-shows h t lits A s detail row))
+  row-shows : (s : State) (detail : ℕ) (row : List ℕ) → Shows h t (rowWork h t chars s detail row)
+  row-shows s detail row = by-test (eqb (s .phase) started) (λ e. rw e (first-shows h t chars A s detail row)) (λ e. rw e (later-shows h t chars A s detail row))
 
-  pub row-put : (detail : ℕ) (s : State) (row out : List ℕ) → rowOn h t lits detail s row out ≡ putInto s out (rowOf h t lits detail s row)
+  pub row-put : (detail : ℕ) (s : State) (row out : List ℕ) → rowOn h t chars detail s row out ≡ putInto s out (rowOf h t chars detail s row)
   unfolding callOn rowOf
   row-put detail s row out =
-      unless-put s out _ (workRow h t s (rowWork h t lits s detail row)) (work-put s (rowWork h t lits s detail row) (row-shows s detail row) out) (rowTried h t s detail row)
+      unless-put s out _ (workRow h t s (rowWork h t chars s detail row)) (work-put s (rowWork h t chars s detail row) (row-shows s detail row) out) (rowTried h t s detail row)
 
   -- ---- what is kept from row to row
   pub record Going (s : State) : Type 0 where
-    pub stands : Stands h t lits s
+    pub stands : Stands h t chars s
     pub busy : s .phase ≡ idle → ⊥
 
   work-busy : (s : State) (w : Work) → w .phase ≡ running → (s .phase ≡ idle → ⊥) → workRow h t s w .state .phase ≡ idle → ⊥
@@ -78,7 +78,7 @@ module _ (h : Head) (t lits : List ℕ) (A : Accepted h t lits) where
       (λ p. rw (o, p) (λ q. let z = sym e ∙ q in omega arith)))
       (λ o. rw o n)
 
-  row-running : (s : State) (detail : ℕ) (row : List ℕ) → rowWork h t lits s detail row .phase ≡ running
+  row-running : (s : State) (detail : ℕ) (row : List ℕ) → rowWork h t chars s detail row .phase ≡ running
   unfolding firstWork laterWork
   row-running s detail row = by-test (eqb (s .phase) started) (λ e. rw e refl) (λ e. rw e refl)
 
@@ -86,17 +86,17 @@ module _ (h : Head) (t lits : List ℕ) (A : Accepted h t lits) where
   unless-busy s x n m Passed = m
   unless-busy s x n m (Refused v) = n
 
-  row-busy : (detail : ℕ) (s : State) (row : List ℕ) → (s .phase ≡ idle → ⊥) → rowOf h t lits detail s row .state .phase ≡ idle → ⊥
+  row-busy : (detail : ℕ) (s : State) (row : List ℕ) → (s .phase ≡ idle → ⊥) → rowOf h t chars detail s row .state .phase ≡ idle → ⊥
   unfolding rowOf
-  row-busy detail s row n = unless-busy s _ n (work-busy s (rowWork h t lits s detail row) (row-running s detail row) n) (rowTried h t s detail row)
+  row-busy detail s row n = unless-busy s _ n (work-busy s (rowWork h t chars s detail row) (row-running s detail row) n) (rowTried h t s detail row)
 
   -- an output as long as its lines has room for the row
-  row-stands : (detail : ℕ) (s : State) (row : List ℕ) → Stands h t lits s → accepted (rowOf h t lits detail s row .verdict) ≡ true → Stands h t lits (rowOf h t lits detail s row .state)
+  row-stands : (detail : ℕ) (s : State) (row : List ℕ) → Stands h t chars s → accepted (rowOf h t chars detail s row .verdict) ≡ true → Stands h t chars (rowOf h t chars detail s row .state)
   row-stands detail s row S e =
-      let x = rowOf h t lits detail s row in
-      rw (row-put detail s row (x .lines), e, le-ltb (length (x .lines)) (length (x .lines)) (omega arith)) at (call-stands h t lits A s S (x .lines) (Generate detail) row)
+      let x = rowOf h t chars detail s row in
+      rw (row-put detail s row (x .lines), e, le-ltb (length (x .lines)) (length (x .lines)) (omega arith)) at (call-stands h t chars A s S (x .lines) (Generate detail) row)
 
-  pub row-going : (detail : ℕ) (s : State) (row : List ℕ) → Going s → accepted (rowOf h t lits detail s row .verdict) ≡ true → Going (rowOf h t lits detail s row .state)
+  pub row-going : (detail : ℕ) (s : State) (row : List ℕ) → Going s → accepted (rowOf h t chars detail s row .verdict) ≡ true → Going (rowOf h t chars detail s row .state)
   row-going detail s row g e = record { stands = row-stands detail s row (g .stands) e; busy = row-busy detail s row (g .busy) }
 
   -- ---- no row is refused for want of room
@@ -110,8 +110,8 @@ module _ (h : Head) (t lits : List ℕ) (A : Accepted h t lits) where
   unless-ample s x n Passed e = n
   unless-ample s x n (Refused v) e = λ q. omega (arith, e .1)
 
-  pub row-ample : (detail : ℕ) (s : State) (row : List ℕ) → number (rowOf h t lits detail s row .verdict) ≡ 9 → ⊥
+  pub row-ample : (detail : ℕ) (s : State) (row : List ℕ) → number (rowOf h t chars detail s row .verdict) ≡ 9 → ⊥
   unfolding rowOf
   row-ample detail s row =
-      unless-ample s (workRow h t s (rowWork h t lits s detail row)) (work-ample s (rowWork h t lits s detail row)) (rowTried h t s detail row)
+      unless-ample s (workRow h t s (rowWork h t chars s detail row)) (work-ample s (rowWork h t chars s detail row)) (rowTried h t s detail row)
       (early-then (begunIn (stateOk h t s) (s .phase)) _ (early-begun (stateOk h t s) (s .phase)) (early-then (detailTried h t detail) (recordTried h t row) (early-detail h t detail) (early-record h t row)))

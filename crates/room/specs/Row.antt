@@ -40,7 +40,7 @@ unlessRow s x Passed = x
 unlessRow s x (Refused v) = noRow s v
 
 unfoldable pub rowOf : Head → List ℕ → List ℕ → ℕ → State → List ℕ → Row
-rowOf h t lits detail s row = unlessRow s (workRow h t s (rowWork h t lits s detail row)) (rowTried h t s detail row)
+rowOf h t chars detail s row = unlessRow s (workRow h t s (rowWork h t chars s detail row)) (rowTried h t s detail row)
 
 -- and refusal 9: the row into an output
 abbrev pub putInto : State → List ℕ → Row → Result

@@ -57,9 +57,9 @@ unless-fits : (s : State) (o : List ℕ) (r : Result) (t : Tried) → Fits o r �
 unless-fits s o r Passed f = f
 unless-fits s o r (Refused v) f = refuse-fits s o v
 
-pub row-fits : (h : Head) (t lits : List ℕ) (detail : ℕ) (s : State) (row o : List ℕ) → Fits o (rowOn h t lits detail s row o)
+pub row-fits : (h : Head) (t chars : List ℕ) (detail : ℕ) (s : State) (row o : List ℕ) → Fits o (rowOn h t chars detail s row o)
 unfolding callOn
-row-fits h t lits detail s row o = unless-fits s o _ (rowTried h t s detail row) (settled-fits h t s (rowWork h t lits s detail row) o)
+row-fits h t chars detail s row o = unless-fits s o _ (rowTried h t s detail row) (settled-fits h t s (rowWork h t chars s detail row) o)
 
 -- ---- the run
 pub stays : (one : One) (rows : List ℕ) (size : ℕ) (x : Ran) (n : ℕ) → goes rows size x ≡ false → ran one rows size n x ≡ x

@@ -18,15 +18,15 @@ pub struct Run {
 pub fn rows_on(
     t: &[u16],
     h: Head,
-    lits: &[u8],
+    chars: &[u8],
     s: State,
     detail: usize,
     rows: &[u8],
     size: usize,
     out: &mut [u8],
 ) -> Run
-    requires { ⌜ Accepted h (now t) (now lits) ⌝ }
-    ensures { λ r. ⌜ Comes (through (rowOn h (now (t .entry)) (now (lits .entry)) detail) (now (rows .entry)) size s (now (out .entry))) r (now (out .exit)) (now (rows .entry)) ⌝ }
+    requires { ⌜ Accepted h (now t) (now chars) ⌝ }
+    ensures { λ r. ⌜ Comes (through (rowOn h (now (t .entry)) (now (chars .entry)) detail) (now (rows .entry)) size s (now (out .entry))) r (now (out .exit)) (now (rows .entry)) ⌝ }
 {
     let n = rows.len();
     let mut state = s;
@@ -45,7 +45,7 @@ pub fn rows_on(
         let a = calls::call_on(
             t,
             h,
-            lits,
+            chars,
             state,
             Asked::Generate(detail),
             &rows[k..k + size],

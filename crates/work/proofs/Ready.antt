@@ -40,11 +40,11 @@ use Rattle.refusals.specs.Facts.{RowIn}
 use Rattle.answer.specs.Result.{placeOf}
 use Rattle.work.specs.Facts.{Stands}
 
-module _ {h : Head} {t lits : List ℕ} (A : Accepted h t lits) where
+module _ {h : Head} {t chars : List ℕ} (A : Accepted h t chars) where
   called : {p : Plan} {s : Pos} → Planned h p → s .page ≤ lastPage → Called h t p s
   called q l = record { small = A .small; planned = q; page = l }
 
-  printable : (kept row : List ℕ) (sums : List ℤ) (flag : Bool) → Formed h t kept → Formed h t row → length sums ≡ sumCount → Printable h t (reading lits kept row sums flag noPrefix)
+  printable : (kept row : List ℕ) (sums : List ℤ) (flag : Bool) → Formed h t kept → Formed h t row → length sums ≡ sumCount → Printable h t (reading chars kept row sums flag noPrefix)
   printable kept row sums flag k r n = record {
     items = A .itemsIn;
     readable = record { kept = k; row = r; sums = omega (arith, A .countersIn .few) };
@@ -53,9 +53,9 @@ module _ {h : Head} {t lits : List ℕ} (A : Accepted h t lits) where
 
 -- ---- a row that passed its tests
 abbrev pub RowAt : ℕ → Head → List ℕ → List ℕ → State → ℕ → List ℕ → Type 0
-RowAt phase h t lits s detail row = Stands h t lits s × (RowIn h t detail row × (s .phase ≡ phase))
+RowAt phase h t chars s detail row = Stands h t chars s × (RowIn h t detail row × (s .phase ≡ phase))
 
-module _ {phase : ℕ} {h : Head} {t lits : List ℕ} {s : State} {detail : ℕ} {row : List ℕ} (p : RowAt phase h t lits s detail row) where
+module _ {phase : ℕ} {h : Head} {t chars : List ℕ} {s : State} {detail : ℕ} {row : List ℕ} (p : RowAt phase h t chars s detail row) where
   pub detail-few : detail < flagCount
   detail-few = omega (arith, detail-counted h t detail (p .1 .0 .named), p .0 .accepted .details8)
 
@@ -73,7 +73,7 @@ module _ {phase : ℕ} {h : Head} {t lits : List ℕ} {s : State} {detail : ℕ}
   clearable f = (detail-few, (f .0, omega (arith, f .1, p .0 .accepted .groups32)))
 
 -- ---- the first row, of a started state
-module _ {h : Head} {t lits : List ℕ} {s : State} {detail : ℕ} {row : List ℕ} (p : RowAt started h t lits s detail row) where
+module _ {h : Head} {t chars : List ℕ} {s : State} {detail : ℕ} {row : List ℕ} (p : RowAt started h t chars s detail row) where
   fresh-one : s ≡ freshAt started
   fresh-one = started-facts h t s (p .0 .sized) (p .1 .1) (p .0 .rules)
 
@@ -86,7 +86,7 @@ module _ {h : Head} {t lits : List ℕ} {s : State} {detail : ℕ} {row : List �
   pub first-called : {g : ℕ} {q : Plan} {at : Pos} → q ≡ firstPlan h g → at ≡ placeOf s → g ≤ h .groups → Called h t q at
   first-called e f l = rw (e, f) (called (p .0 .accepted) (record { level = omega arith; feet = omega arith; heads = p .0 .accepted .controls8; detail = l }) (omega (arith, ap (λ (x : State). x .page) fresh-one)))
 
-  pub first-printable : {totals : Totals} {kept : List ℕ} → totals ≡ totalsFirst h t row detail (s .sums) → kept ≡ paddedRow row → Printable h t (reading lits kept row (totals .shown) true noPrefix) × (length (totals .shown) ≡ sumCount)
+  pub first-printable : {totals : Totals} {kept : List ℕ} → totals ≡ totalsFirst h t row detail (s .sums) → kept ≡ paddedRow row → Printable h t (reading chars kept row (totals .shown) true noPrefix) × (length (totals .shown) ≡ sumCount)
   first-printable e k =
       let A = p .0 .accepted in
       let n = first-good h t (A .countersIn .few) (s .sums) zero-sums row detail .long in
@@ -100,7 +100,7 @@ good-sums {s = s} f n = record {
   beyond = λ i m. by-test (ltb i sumCount) (λ q. f .beyondSums i m (ltb-true i sumCount q)) (λ q. List·getD-eq-default (s .sums) (pos 0) (omega (arith, ltb-false i sumCount q)));
 }
 
-module _ {h : Head} {t lits : List ℕ} {s : State} (S : Stands h t lits s) (e : s .phase ≡ running) where
+module _ {h : Head} {t chars : List ℕ} {s : State} (S : Stands h t chars s) (e : s .phase ≡ running) where
   facts : RunningState h t s
   facts = running-facts h t s e (S .rules)
 
@@ -113,13 +113,13 @@ module _ {h : Head} {t lits : List ℕ} {s : State} (S : Stands h t lits s) (e :
   pub last-called : {q : Plan} {at : Pos} → q ≡ lastPlan h → at ≡ placeOf s → Called h t q at
   last-called d f = rw (d, f) (called (S .accepted) (record { level = omega arith; feet = S .accepted .controls8; heads = omega arith; detail = omega arith }) (facts .last))
 
-  pub last-printable : {totals : Totals} → totals ≡ totalsLast h t (s .sums) → Printable h t (reading lits (s .kept) (s .kept) (totals .shown) false noPrefix) × (length (totals .shown) ≡ sumCount)
+  pub last-printable : {totals : Totals} → totals ≡ totalsLast h t (s .sums) → Printable h t (reading chars (s .kept) (s .kept) (totals .shown) false noPrefix) × (length (totals .shown) ≡ sumCount)
   last-printable d =
       let n = last-good h t (S .accepted .countersIn .few) (s .sums) (good-sums facts (S .sized .sumsLong)) .long in
       rw d (printable (S .accepted) (s .kept) (s .kept) _ false kept-in kept-in n, n)
 
 -- and its row
-module _ {h : Head} {t lits : List ℕ} {s : State} {detail : ℕ} {row : List ℕ} (p : RowAt running h t lits s detail row) where
+module _ {h : Head} {t chars : List ℕ} {s : State} {detail : ℕ} {row : List ℕ} (p : RowAt running h t chars s detail row) where
   pub later-comparable : Comparable h t (s .kept) row
   later-comparable = record { controls = p .0 .accepted .controlsIn; keptFormed = kept-in (p .0) (p .1 .1); rowFormed = row-formed p }
 
@@ -131,7 +131,7 @@ module _ {h : Head} {t lits : List ℕ} {s : State} {detail : ℕ} {row : List �
       let A = p .0 .accepted in
       rw (e, f) (called A (record { level = omega (arith, A .controls8); feet = omega (arith, A .controls8); heads = omega (arith, A .controls8); detail = l }) (facts (p .0) (p .1 .1) .last))
 
-  pub later-printable : {totals : Totals} (b : ℕ) (flag : Bool) → totals ≡ totalsLater h t row detail b (s .sums) → Printable h t (reading lits (s .kept) row (totals .shown) flag noPrefix)
+  pub later-printable : {totals : Totals} (b : ℕ) (flag : Bool) → totals ≡ totalsLater h t row detail b (s .sums) → Printable h t (reading chars (s .kept) row (totals .shown) flag noPrefix)
   later-printable b flag e =
       let A = p .0 .accepted in
       rw e (printable A (s .kept) row _ flag (kept-in (p .0) (p .1 .1)) (row-formed p) (later-good h t (A .countersIn .few) (s .sums) (good-sums (facts (p .0) (p .1 .1)) (p .0 .sized .sumsLong)) row detail b .long))

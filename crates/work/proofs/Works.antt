@@ -32,23 +32,23 @@ pub flags-are : (h : Head) (t : List ℕ) (s : State) (p : Plan) {pos : Pos} {m 
 flags-are h t s p flags e x q = rw (q, x .is, e) refl
 
 -- a later row, refused for its sums before it is measured
-pub later-refused : (h : Head) (t lits : List ℕ) (s : State) (out : List ℕ) (detail : ℕ) (row : List ℕ) {r : Answer} {b : ℕ} {totals : Totals} → b ≡ breakLevel h t (s .kept) row → totals ≡ totalsLater h t row detail b (s .sums) → totals .ok ≡ false → r ≡ refusal s Sum → Returns (settled h t s (laterWork h t lits s detail row) out) r out
+pub later-refused : (h : Head) (t chars : List ℕ) (s : State) (out : List ℕ) (detail : ℕ) (row : List ℕ) {r : Answer} {b : ℕ} {totals : Totals} → b ≡ breakLevel h t (s .kept) row → totals ≡ totalsLater h t row detail b (s .sums) → totals .ok ≡ false → r ≡ refusal s Sum → Returns (settled h t s (laterWork h t chars s detail row) out) r out
 unfolding laterWork
-later-refused h t lits s out detail row e1 e2 k q = sums-refused h t s (laterWork h t lits s detail row) out (rw (e2, e1) at k) q
+later-refused h t chars s out detail row e1 e2 k q = sums-refused h t s (laterWork h t chars s detail row) out (rw (e2, e1) at k) q
 
-module _ (h : Head) (t lits : List ℕ) (s : State) (out : List ℕ) {r : Answer} {new : List ℕ} where
+module _ (h : Head) (t chars : List ℕ) (s : State) (out : List ℕ) {r : Answer} {new : List ℕ} where
   module _ (detail : ℕ) (row : List ℕ) where
     pub first-so : {totals : Totals} {g n : ℕ} {p : Plan} {pos : Pos} {m : Measured} {job : Job} {kept : List ℕ} {set flags : List Bool} → totals ≡ totalsFirst h t row detail (s .sums) → g ≡ theDetail h t detail → p ≡ firstPlan h g → pos ≡ placeOf s → job ≡ jobOf p pos m true → kept ≡ paddedRow row → n ≡ details h t → set ≡ flagsSet n → flags ≡ cleared h t detail set
-        → Returns (settled h t s (prepared h t lits kept row (record { state = s; totals = totals; job = job; phase = running; flags = flags; kept = kept })) out) r new → Returns (settled h t s (firstWork h t lits s detail row) out) r new
+        → Returns (settled h t s (prepared h t chars kept row (record { state = s; totals = totals; job = job; phase = running; flags = flags; kept = kept })) out) r new → Returns (settled h t s (firstWork h t chars s detail row) out) r new
     unfolding firstWork
     first-so e1 e2 e3 e4 j e5 e6 e7 e8 x = rw (e1, j, e4, e3, e2, e5, e8, e7, e6) at x
 
     pub later-so : {b g : ℕ} {totals : Totals} {p : Plan} {pos : Pos} {m : Measured} {job : Job} {broken set flags : List Bool} {next : List ℕ} → b ≡ breakLevel h t (s .kept) row → totals ≡ totalsLater h t row detail b (s .sums) → g ≡ theDetail h t detail → p ≡ laterPlan h b g → pos ≡ placeOf s → broken ≡ flagsAt h t b (s .flags) → set ≡ flagsAfter h t s p broken → job ≡ jobOf p pos m (getD set detail false) → flags ≡ cleared h t detail set → next ≡ keptAt h b row (s .kept)
-        → Returns (settled h t s (prepared h t lits (s .kept) row (record { state = s; totals = totals; job = job; phase = running; flags = flags; kept = next })) out) r new → Returns (settled h t s (laterWork h t lits s detail row) out) r new
+        → Returns (settled h t s (prepared h t chars (s .kept) row (record { state = s; totals = totals; job = job; phase = running; flags = flags; kept = next })) out) r new → Returns (settled h t s (laterWork h t chars s detail row) out) r new
     unfolding laterWork
     later-so e1 e2 e3 e4 e5 e6 e7 j e8 e9 x = rw (e2, j, e5, e8, e7, e6, e4, e3, e9, e1) at x
 
   pub last-so : {totals : Totals} {p : Plan} {pos : Pos} {m : Measured} {job : Job} {flags : List Bool} → totals ≡ totalsLast h t (s .sums) → p ≡ lastPlan h → pos ≡ placeOf s → job ≡ jobOf p pos m false → flags ≡ flagsAfter h t s p (s .flags)
-      → Returns (settled h t s (prepared h t lits (s .kept) (s .kept) (record { state = s; totals = totals; job = job; phase = idle; flags = flags; kept = s .kept })) out) r new → Returns (settled h t s (lastWork h t lits s) out) r new
+      → Returns (settled h t s (prepared h t chars (s .kept) (s .kept) (record { state = s; totals = totals; job = job; phase = idle; flags = flags; kept = s .kept })) out) r new → Returns (settled h t s (lastWork h t chars s) out) r new
   unfolding lastWork
   last-so e1 e2 e3 j f x = rw (e1, j, e3, f, e2) at x

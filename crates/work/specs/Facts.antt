@@ -18,8 +18,8 @@ use Rattle.due_text.specs.Bytes.{reading}
 use Rattle.work.specs.declared.Prepared.{Prepared}
 use Rattle.work.specs.Work.{Work}
 
-pub record Stands (h : Head) (t lits : List ℕ) (s : State) : Type 0 where
-  pub accepted : Accepted h t lits
+pub record Stands (h : Head) (t chars : List ℕ) (s : State) : Type 0 where
+  pub accepted : Accepted h t chars
   pub rules : stateOk h t s ≡ true
   pub sized : Sized s
 
@@ -29,10 +29,10 @@ jobOf p pos m flag = record { plan = p; pos = pos; measured = m; flag = flag; pr
 
 -- the work from the parts that the code holds
 abbrev pub prepared : Head → List ℕ → List ℕ → List ℕ → List ℕ → Prepared → Work
-prepared h t lits kept row w = record {
+prepared h t chars kept row w = record {
   ok = w .totals .ok;
   laid = layout h t (w .job .plan) (w .job .pos);
-  inputs = reading lits kept row (w .totals .shown) (w .job .flag) (w .job .prefix);
+  inputs = reading chars kept row (w .totals .shown) (w .job .flag) (w .job .prefix);
   phase = w .phase;
   sums = w .totals .sums;
   flags = w .flags;

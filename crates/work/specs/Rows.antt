@@ -24,12 +24,12 @@ flagsAfter h t s p flags = flagsTurned h t (s .page) (laidOf h t s p .to .page) 
 -- "First GENERATE: phase running, keep the record, set each detail's indicate flag; RH, PH, all CH senior to junior; then subtotal; then the detail."
 -- Page changes find all flags set
 unfoldable pub firstWork : Head → List ℕ → List ℕ → State → ℕ → List ℕ → Work
-firstWork h t lits s detail row =
+firstWork h t chars s detail row =
     let totals = totalsFirst h t row detail (s .sums) in
     record {
       ok = totals .ok;
       laid = laidOf h t s (firstPlan h (theDetail h t detail));
-      inputs = reading lits (paddedRow row) row (totals .shown) true noPrefix;
+      inputs = reading chars (paddedRow row) row (totals .shown) true noPrefix;
       phase = running;
       sums = totals .sums;
       flags = cleared h t detail (flagsSet (details h t));
@@ -38,14 +38,14 @@ firstWork h t lits s detail row =
 
 -- "On a break at level b: CFs from junior up to b, then keep the record and set indicate flags, then CHs from b down; then subtotal and detail."
 abbrev pub laterAt : Head → List ℕ → List ℕ → State → ℕ → List ℕ → ℕ → Work
-laterAt h t lits s detail row b =
+laterAt h t chars s detail row b =
     let totals = totalsLater h t row detail b (s .sums) in
     let plan = laterPlan h b (theDetail h t detail) in
     let flags = flagsAfter h t s plan (flagsAt h t b (s .flags)) in
     record {
       ok = totals .ok;
       laid = laidOf h t s plan;
-      inputs = reading lits (s .kept) row (totals .shown) (getD flags detail false) noPrefix;
+      inputs = reading chars (s .kept) row (totals .shown) (getD flags detail false) noPrefix;
       phase = running;
       sums = totals .sums;
       flags = cleared h t detail flags;
@@ -53,19 +53,19 @@ laterAt h t lits s detail row b =
     }
 
 unfoldable pub laterWork : Head → List ℕ → List ℕ → State → ℕ → List ℕ → Work
-laterWork h t lits s detail row = laterAt h t lits s detail row (breakLevel h t (s .kept) row)
+laterWork h t chars s detail row = laterAt h t chars s detail row (breakLevel h t (s .kept) row)
 
 abbrev pub rowWork : Head → List ℕ → List ℕ → State → ℕ → List ℕ → Work
-rowWork h t lits s detail row = cond (eqb (s .phase) started) (firstWork h t lits s detail row) (laterWork h t lits s detail row)
+rowWork h t chars s detail row = cond (eqb (s .phase) started) (firstWork h t chars s detail row) (laterWork h t chars s detail row)
 
 -- "TERMINATE .. when running: break at level 0, all CFs, then PF, RF; idle after, the rest as these steps leave it."
 unfoldable pub lastWork : Head → List ℕ → List ℕ → State → Work
-lastWork h t lits s =
+lastWork h t chars s =
     let totals = totalsLast h t (s .sums) in
     record {
       ok = totals .ok;
       laid = laidOf h t s (lastPlan h);
-      inputs = reading lits (s .kept) (s .kept) (totals .shown) false noPrefix;
+      inputs = reading chars (s .kept) (s .kept) (totals .shown) false noPrefix;
       phase = idle;
       sums = totals .sums;
       flags = flagsAfter h t s (lastPlan h) (s .flags);

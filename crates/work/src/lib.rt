@@ -36,14 +36,14 @@ pub struct Prepared {
 fn run<'a>(
     t: &[u16],
     h: Head,
-    lits: &[u8],
+    chars: &[u8],
     kept: &'a [u8],
     row: &'a [u8],
     w: Prepared,
     out: &mut [u8],
 ) -> Answer
-    requires { ⌜ Called h (now t) (w .job .plan) (w .job .pos) × (Measures h (now t) (w .job .plan) (w .job .pos) (w .job .measured) × (Printable h (now t) (reading (now lits) (now kept) (now row) (w .totals .shown) (w .job .flag) (w .job .prefix)) × (length (w .totals .shown) ≡ sumCount))) ⌝ }
-    ensures { λ r. ⌜ Returns (settled h (now (t .entry)) (w .state) (prepared h (now (t .entry)) (now (lits .entry)) (now (kept .entry)) (now (row .entry)) w) (now (out .entry))) r (now (out .exit)) ⌝ }
+    requires { ⌜ Called h (now t) (w .job .plan) (w .job .pos) × (Measures h (now t) (w .job .plan) (w .job .pos) (w .job .measured) × (Printable h (now t) (reading (now chars) (now kept) (now row) (w .totals .shown) (w .job .flag) (w .job .prefix)) × (length (w .totals .shown) ≡ sumCount))) ⌝ }
+    ensures { λ r. ⌜ Returns (settled h (now (t .entry)) (w .state) (prepared h (now (t .entry)) (now (chars .entry)) (now (kept .entry)) (now (row .entry)) w) (now (out .entry))) r (now (out .exit)) ⌝ }
 {
     let s = w.state;
     let totals = w.totals;
@@ -53,7 +53,7 @@ fn run<'a>(
     }
     let job = w.job;
     let shown = totals.shown;
-    let outcome = pages::call(t, h, lits, kept, row, &shown, job, out);
+    let outcome = pages::call(t, h, chars, kept, row, &shown, job, out);
     let sums = totals.sums;
     let flags = w.flags;
     let next = w.kept;
@@ -78,14 +78,14 @@ fn job_of(plan: Plan, pos: Pos, measured: Measured, flag: bool) -> Job
 pub fn first_row(
     t: &[u16],
     h: Head,
-    lits: &[u8],
+    chars: &[u8],
     s: State,
     detail: usize,
     rec: &[u8],
     out: &mut [u8],
 ) -> Answer
-    requires { ⌜ Stands h (now t) (now lits) s × (RowIn h (now t) detail (now rec) × (s .phase ≡ started)) ⌝ }
-    ensures { λ r. ⌜ Returns (settled h (now (t .entry)) s (firstWork h (now (t .entry)) (now (lits .entry)) s detail (now (rec .entry))) (now (out .entry))) r (now (out .exit)) ⌝ }
+    requires { ⌜ Stands h (now t) (now chars) s × (RowIn h (now t) detail (now rec) × (s .phase ≡ started)) ⌝ }
+    ensures { λ r. ⌜ Returns (settled h (now (t .entry)) s (firstWork h (now (t .entry)) (now (chars .entry)) s detail (now (rec .entry))) (now (out .entry))) r (now (out .exit)) ⌝ }
 {
     let group = lookup::find_detail(t, h, detail);
     let old = s.sums;
@@ -111,21 +111,21 @@ pub fn first_row(
         flags,
         kept: next,
     };
-    run(t, h, lits, &kept, rec, w, out)
+    run(t, h, chars, &kept, rec, w, out)
 }
 
 // A later row. It works as `run` does, but in its own place: of all calls this one is made the most, and `run` copies what it is handed.
 pub fn later_row(
     t: &[u16],
     h: Head,
-    lits: &[u8],
+    chars: &[u8],
     s: State,
     detail: usize,
     rec: &[u8],
     out: &mut [u8],
 ) -> Answer
-    requires { ⌜ Stands h (now t) (now lits) s × (RowIn h (now t) detail (now rec) × (s .phase ≡ running)) ⌝ }
-    ensures { λ r. ⌜ Returns (settled h (now (t .entry)) s (laterWork h (now (t .entry)) (now (lits .entry)) s detail (now (rec .entry))) (now (out .entry))) r (now (out .exit)) ⌝ }
+    requires { ⌜ Stands h (now t) (now chars) s × (RowIn h (now t) detail (now rec) × (s .phase ≡ running)) ⌝ }
+    ensures { λ r. ⌜ Returns (settled h (now (t .entry)) s (laterWork h (now (t .entry)) (now (chars .entry)) s detail (now (rec .entry))) (now (out .entry))) r (now (out .exit)) ⌝ }
 {
     let group = lookup::find_detail(t, h, detail);
     let b = rows::break_level(t, h, &s.kept, rec);
@@ -144,7 +144,7 @@ pub fn later_row(
     let turned = state::flags_turned(t, h, pos.page, to.page, broken);
     let flag = turned[detail];
     let job = job_of(plan, pos, measured, flag);
-    let outcome = pages::call(t, h, lits, &s.kept, rec, &totals.shown, job, out);
+    let outcome = pages::call(t, h, chars, &s.kept, rec, &totals.shown, job, out);
     let sums = totals.sums;
     let kept = s.kept;
     let flags = state::cleared(t, h, detail, group, turned);
@@ -153,9 +153,9 @@ pub fn later_row(
 }
 
 // The last footings of a report.
-pub fn last_groups(t: &[u16], h: Head, lits: &[u8], s: State, out: &mut [u8]) -> Answer
-    requires { ⌜ Stands h (now t) (now lits) s × (s .phase ≡ running) ⌝ }
-    ensures { λ r. ⌜ Returns (settled h (now (t .entry)) s (lastWork h (now (t .entry)) (now (lits .entry)) s) (now (out .entry))) r (now (out .exit)) ⌝ }
+pub fn last_groups(t: &[u16], h: Head, chars: &[u8], s: State, out: &mut [u8]) -> Answer
+    requires { ⌜ Stands h (now t) (now chars) s × (s .phase ≡ running) ⌝ }
+    ensures { λ r. ⌜ Returns (settled h (now (t .entry)) s (lastWork h (now (t .entry)) (now (chars .entry)) s) (now (out .entry))) r (now (out .exit)) ⌝ }
 {
     let old = s.sums;
     let kept = s.kept;
@@ -176,5 +176,5 @@ pub fn last_groups(t: &[u16], h: Head, lits: &[u8], s: State, out: &mut [u8]) ->
         flags,
         kept: next,
     };
-    run(t, h, lits, &kept, &kept, w, out)
+    run(t, h, chars, &kept, &kept, w, out)
 }

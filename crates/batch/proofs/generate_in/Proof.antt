@@ -9,7 +9,7 @@ use Rattle.batch.proofs.generate_in.Statement.{statement}
 use Rattle.batch.proofs.generate_in.Tie as tie
 
 -- from the literals back to CHECK's answer, and from there to the start
-abbrev checked : tie.After-literals-of → tie.After-check-in
+abbrev checked : tie.After-characters-in → tie.After-check-in
 checked l = l .before .before .before .before .before .before
 
 abbrev start : tie.After-check-in → tie.Start
@@ -19,7 +19,7 @@ rows-on-requires : tie.Need-rows-on-requires
 rows-on-requires c κs =
     let l = c .before in
     let k = checked l in
-    accepted-so _ _ _ _ (sym (k .check-in .ensures .0) ∙ l .before .before .enum-told .given .1) (start k .pre .0 .head) (k .check-in .ensures .1) (l .literals-of .ensures)
+    accepted-so _ _ _ _ (sym (k .check-in .ensures .0) ∙ l .before .before .enum-told .given .1) (start k .pre .0 .head) (k .check-in .ensures .1) (l .characters-in .ensures)
 
 returns : tie.Need-returns
 returns c =
@@ -30,7 +30,7 @@ returns-2 : tie.Need-returns-2
 returns-2 c =
     let l = c .before .before .before .before in
     let k = checked l in
-    comes-on _ _ _ _ _ (sym (k .check-in .ensures .0) ∙ l .before .before .enum-told .given .1) (start k .pre .0 .head) (k .check-in .ensures .1) (l .literals-of .ensures) _ _ (c .before .before .rows-on .ensures)
+    comes-on _ _ _ _ _ (sym (k .check-in .ensures .0) ∙ l .before .before .enum-told .given .1) (start k .pre .0 .head) (k .check-in .ensures .1) (l .characters-in .ensures) _ _ (c .before .before .rows-on .ensures)
 
 pub generate-in-spec : {M : Type 1} → statement M
 generate-in-spec =

@@ -10,13 +10,13 @@ use Rattle.call_text.proofs.print_turns.Statement.{statement}
 use Rattle.call_text.proofs.print_turns.Tie as tie
 
 abbrev Inv-loop : tie.InvT-loop
-Inv-loop t h lits kept row sums x out₀ p prefix all k₀ c₀ out k c = Pass h t (reading lits kept row sums (x .flag) (x .prefix)) (x .plan) out₀ (x .at) (x .pos) k out c
+Inv-loop t h chars kept row sums x out₀ p prefix all k₀ c₀ out k c = Pass h t (reading chars kept row sums (x .flag) (x .prefix)) (x .plan) out₀ (x .at) (x .pos) k out c
 
 abbrev μ-loop : tie.MeasureT-loop
-μ-loop t h lits kept row sums x out₀ p prefix all k₀ c₀ out k c = all - k
+μ-loop t h chars kept row sums x out₀ p prefix all k₀ c₀ out k c = all - k
 
 abbrev read : tie.Start Inv-loop μ-loop → Reading
-read s = let a = s .args in reading (a .lits .now) (a .kept .now) (a .row .now) (a .sums .now) (a .x .flag) (a .x .prefix)
+read s = let a = s .args in reading (a .chars .now) (a .kept .now) (a .row .now) (a .sums .now) (a .x .flag) (a .x .prefix)
 
 print-turn-requires : tie.Need-print-turn-requires Inv-loop μ-loop
 print-turn-requires c κs =

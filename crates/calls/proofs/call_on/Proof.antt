@@ -30,7 +30,7 @@ tests-are c = rw (c .before .state-ok .ensures) at (c .tried .ensures)
 passed : (c : tie.After-enum-told) → found (start (c .before .before)) ≡ Passed
 passed c = sym (tests-are (c .before .before)) ∙ c .enum-told .given .1
 
-stands : (c : tie.Start) → Begun (c .args .h) (c .args .t .now) (c .args .s) → Stands (c .args .h) (c .args .t .now) (c .args .lits .now) (c .args .s)
+stands : (c : tie.Start) → Begun (c .args .h) (c .args .t .now) (c .args .s) → Stands (c .args .h) (c .args .t .now) (c .args .chars .now) (c .args .s)
 stands c b =
     let s = c .args .s in
     let g = c .good .1 .1 .1 .0 .1 .1 .1 .1 .1 .1 .1 in

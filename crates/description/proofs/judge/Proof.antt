@@ -1,19 +1,19 @@
--- `description::judge` meets its contract. `past2` to `past8`: what the answer is once a rule is passed.
+-- `description::judge` meets its contract. `past2` to `past9`: what the answer is once a rule is passed.
 -- Assumes nothing.
 use borrow.Author.Needs.{needs}
 use Prim.Native.Nat.{ℕ}
 use mathlib.Core.Path.{_≡_, sym, _∙_}
 use mathlib.Core.List.{List}
 use Rattle.tables.specs.declared.Head.{Head}
-use Rattle.description.specs.Check.{judged, from3, from4, from5, from6, from7, from8}
+use Rattle.description.specs.Check.{judged, from3, from4, from5, from6, from7, from8, from9}
 use Rattle.description.specs.declared.Checked.{Checked}
 use Rattle.description.specs.declared.Checked.the-variants.{Accepted}
 use Rattle.description.proofs.judge.Statement.{statement}
 use Rattle.description.proofs.judge.Tie as tie
 
 -- the answer is that of what is left of the rules
-abbrev Left : tie.Start → (Head → List ℕ → List ℕ → Checked) → Type 0
-Left s rest = let a = s .args in judged (a .v) (a .h) (a .t .now) (a .lits .now) ≡ rest (a .h) (a .t .now) (a .lits .now)
+abbrev Left : tie.Start → (ℕ → Head → List ℕ → List ℕ → Checked) → Type 0
+Left s rest = let a = s .args in judged (a .v) (a .h) (a .t .now) (a .chars .now) ≡ rest (a .v) (a .h) (a .t .now) (a .chars .now)
 
 -- from a rule that is passed back to the one before, and from D2 to the start
 abbrev at2 : tie.After-enum-told → tie.Start
@@ -74,7 +74,7 @@ returns-5 c = sym (past5 (c .before .before .before) ∙ simp (sym (c .before .b
 abbrev at7 : tie.After-enum-told11 → tie.Start
 at7 c = at6 (c .before .before .before)
 
-past7 : (c : tie.After-enum-told11) → Left (at7 c) (λ h t lits. from8 h t)
+past7 : (c : tie.After-enum-told11) → Left (at7 c) from8
 unfolding from7
 past7 c = past6 (c .before .before .before) ∙ simp (sym (c .before .before .rule-d7 .ensures) ∙ c .enum-told11 .given .1)
 
@@ -85,7 +85,7 @@ returns-6 c = sym (past6 (c .before .before .before) ∙ simp (sym (c .before .b
 abbrev at8 : tie.After-enum-told13 → tie.Start
 at8 c = at7 (c .before .before .before)
 
-past8 : (c : tie.After-enum-told13) → Left (at8 c) (λ h t lits. Accepted)
+past8 : (c : tie.After-enum-told13) → Left (at8 c) from9
 unfolding from8
 past8 c = past7 (c .before .before .before) ∙ simp (sym (c .before .before .rule-d8 .ensures) ∙ c .enum-told13 .given .1)
 
@@ -93,7 +93,18 @@ returns-7 : tie.Need-returns-7
 unfolding from8
 returns-7 c = sym (past7 (c .before .before .before) ∙ simp (sym (c .before .before .rule-d8 .ensures) ∙ c .enum-told14 .given .1))
 
+abbrev at9 : tie.After-enum-told15 → tie.Start
+at9 c = at8 (c .before .before .before)
+
+past9 : (c : tie.After-enum-told15) → Left (at9 c) (λ v h t chars. Accepted)
+unfolding from9
+past9 c = past8 (c .before .before .before) ∙ simp (sym (c .before .before .rule-9 .ensures) ∙ c .enum-told15 .given .1)
+
+returns-8 : tie.Need-returns-8
+unfolding from9
+returns-8 c = sym (past8 (c .before .before .before) ∙ simp (sym (c .before .before .rule-9 .ensures) ∙ c .enum-told16 .given .1))
+
 pub judge-spec : {M : Type 1} → statement M
 judge-spec =
     tie.close
-    (tie.spec (λ c κs. search needs) (λ c κs. search needs) (λ c. search needs) (λ c. search needs) returns (λ c κs. search needs) (λ c. search needs) (λ c. search needs) returns-2 (λ c κs. search needs) (λ c. search needs) (λ c. search needs) returns-3 (λ c κs. search needs) (λ c. search needs) (λ c. search needs) returns-4 (λ c κs. search needs) (λ c. search needs) (λ c. search needs) returns-5 (λ c κs. search needs) (λ c. search needs) (λ c. search needs) returns-6 (λ c κs. search needs) (λ c. search needs) (λ c. search needs) returns-7 (λ c. sym (past8 c)))
+    (tie.spec (λ c κs. search needs) (λ c κs. search needs) (λ c. search needs) (λ c. search needs) returns (λ c κs. search needs) (λ c. search needs) (λ c. search needs) returns-2 (λ c κs. search needs) (λ c. search needs) (λ c. search needs) returns-3 (λ c κs. search needs) (λ c. search needs) (λ c. search needs) returns-4 (λ c κs. search needs) (λ c. search needs) (λ c. search needs) returns-5 (λ c κs. search needs) (λ c. search needs) (λ c. search needs) returns-6 (λ c κs. search needs) (λ c. search needs) (λ c. search needs) returns-7 (λ c κs. at8 c .pre) (λ c. search needs) (λ c. search needs) returns-8 (λ c. sym (past9 c)))

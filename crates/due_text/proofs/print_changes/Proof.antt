@@ -12,12 +12,12 @@ use Rattle.due_text.proofs.print_changes.Statement.{statement}
 use Rattle.due_text.proofs.print_changes.Tie as tie
 
 abbrev Inv-loop : tie.InvT-loop
-Inv-loop t h lits kept row sums out₀ from left₀ page₀ to₀ out left page to =
-    Printing h t (reading lits kept row sums (from .flag) (from .prefix)) out₀ to₀ (pageChanges h t (from .«from_kept») left₀ page₀) out to (pageChanges h t (from .«from_kept») left page)
+Inv-loop t h chars kept row sums out₀ from left₀ page₀ to₀ out left page to =
+    Printing h t (reading chars kept row sums (from .flag) (from .prefix)) out₀ to₀ (pageChanges h t (from .«from_kept») left₀ page₀) out to (pageChanges h t (from .«from_kept») left page)
     × (page + left ≡ page₀ + left₀)
 
 abbrev μ-loop : tie.MeasureT-loop
-μ-loop t h lits kept row sums out₀ from left₀ page₀ to₀ out left page to = left
+μ-loop t h chars kept row sums out₀ from left₀ page₀ to₀ out left page to = left
 
 pub print-changes-spec : {M : Type 1} → statement M
 print-changes-spec =

@@ -14,7 +14,7 @@ use Rattle.due_text.proofs.print_due.Statement.{statement}
 use Rattle.due_text.proofs.print_due.Tie as tie
 
 -- what there is to print, by the test
-due : (s : tie.Start) {there : Bool} → present (s .args .h) (s .args .t .now) (s .args .p .group) ≡ there → let a = s .args in let v = a .p .first in let rd = reading (a .lits .now) (a .kept .now) (a .row .now) (a .sums .now) (v .flag) (v .prefix) in dueBytes (a .h) (a .t .now) rd (dueOf (a .h) (a .t .now) (a .p .group) (v .«from_kept») (v .page) (v .line)) ≡ cond there (groupBytes (a .h) (a .t .now) (inputsOf rd) v (a .p .group)) []
+due : (s : tie.Start) {there : Bool} → present (s .args .h) (s .args .t .now) (s .args .p .group) ≡ there → let a = s .args in let v = a .p .first in let rd = reading (a .chars .now) (a .kept .now) (a .row .now) (a .sums .now) (v .flag) (v .prefix) in dueBytes (a .h) (a .t .now) rd (dueOf (a .h) (a .t .now) (a .p .group) (v .«from_kept») (v .page) (v .line)) ≡ cond there (groupBytes (a .h) (a .t .now) (inputsOf rd) v (a .p .group)) []
 due s e = let a = s .args in bytes-due (a .h) (a .t .now) _ (a .p .group) (a .p .first) refl refl e
 
 pub print-due-spec : {M : Type 1} → statement M

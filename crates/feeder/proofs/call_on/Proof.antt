@@ -23,10 +23,10 @@ found c = tried (c .args .h) (c .args .t .now) (c .args .f) (c .args .asked)
 
 -- GENERATE of a record, and TERMINATE
 abbrev one : tie.Start → One
-one c = rowOn (c .args .h) (c .args .t .now) (c .args .lits .now) (c .args .f .detail)
+one c = rowOn (c .args .h) (c .args .t .now) (c .args .chars .now) (c .args .f .detail)
 
 abbrev last : tie.Start → Result
-last c = callOn (c .args .h) (c .args .t .now) (c .args .lits .now) (c .args .f .state) Terminate [] (c .args .out .now)
+last c = callOn (c .args .h) (c .args .t .now) (c .args .chars .now) (c .args .f .state) Terminate [] (c .args .out .now)
 
 tests-are : (c : tie.After-tried) → c .tried .result ≡ found (start c)
 tests-are c = rw (c .before .before .before .state-ok .ensures) at (c .tried .ensures)

@@ -16,20 +16,20 @@ use Rattle.group_text.proofs.print_group.Statement.{statement}
 use Rattle.group_text.proofs.print_group.Tie as tie
 
 abbrev Inv-loop : tie.InvT-loop
-Inv-loop t h lits kept row sums p out₀ start n line₀ to₀ k₀ out line to k =
-    Going out₀ (p .at) (groupBytes h t (inputs lits kept row sums) (p .first) (p .group)) out to (joinFrom (n - k) k (ownBytes h t (inputs lits kept row sums) (p .first) (p .group)))
+Inv-loop t h chars kept row sums p out₀ start n line₀ to₀ k₀ out line to k =
+    Going out₀ (p .at) (groupBytes h t (inputs chars kept row sums) (p .first) (p .group)) out to (joinFrom (n - k) k (ownBytes h t (inputs chars kept row sums) (p .first) (p .group)))
     × (k ≤ n)
     × (line ≡ lineNumber h t (p .group) (p .first .line) k)
     × (line ≤ p .first .line + k * 65535)
 
 abbrev μ-loop : tie.MeasureT-loop
-μ-loop t h lits kept row sums p out₀ start n line₀ to₀ k₀ out line to k = n - k
+μ-loop t h chars kept row sums p out₀ start n line₀ to₀ k₀ out line to k = n - k
 
 -- the record of each line of the group
 own : tie.Start Inv-loop μ-loop → ℕ → List ℕ
 own s =
     let a = s .args in
-    ownBytes (a .h) (a .t .now) (inputs (a .lits .now) (a .kept .now) (a .row .now) (a .sums .now)) (a .p .first) (a .p .group)
+    ownBytes (a .h) (a .t .now) (inputs (a .chars .now) (a .kept .now) (a .row .now) (a .sums .now)) (a .p .first) (a .p .group)
 
 loop-holds : tie.Need-loop-holds Inv-loop μ-loop
 unfolding own groupBytes sumBelow

@@ -13,7 +13,7 @@ returns : tie.Need-returns
 returns c =
     let a = c .before .before .before .before .before .before .before .before .before .before .args in
     c .before .before .copy .ensures
-    ∙ ap (splice (a .text .now) (a .x .column - 1)) (take-take (a .x .width) (length (a .lits .now) - a .x .index) (drop (a .x .index) (a .lits .now)) (omega (arith, c .before .before .before .before .before .before .before .before .before .before .pre .1)))
+    ∙ ap (splice (a .text .now) (a .x .column - 1)) (take-take (a .x .width) (length (a .chars .now) - a .x .index) (drop (a .x .index) (a .chars .now)) (omega (arith, c .before .before .before .before .before .before .before .before .before .before .pre .1)))
 
 pub put-literal-spec : {M : Type 1} → statement M
 put-literal-spec =

@@ -16,15 +16,15 @@ use Rattle.line_text.proofs.line_text.Statement.{statement}
 use Rattle.line_text.proofs.line_text.Tie as tie
 
 abbrev Inv-loop : tie.InvT-loop
-Inv-loop t h lits kept row sums v l first n text₀ m₀ text m =
-    (text ≡ foldBelow m (withOwn h t (inputs lits kept row sums) v l) blanks) × (m ≤ n) × (length text ≡ lineMax)
+Inv-loop t h chars kept row sums v l first n text₀ m₀ text m =
+    (text ≡ foldBelow m (withOwn h t (inputs chars kept row sums) v l) blanks) × (m ≤ n) × (length text ≡ lineMax)
 
 abbrev μ-loop : tie.MeasureT-loop
-μ-loop t h lits kept row sums v l first n text₀ m₀ text m = n - m
+μ-loop t h chars kept row sums v l first n text₀ m₀ text m = n - m
 
 -- one item written
 step : tie.Start Inv-loop μ-loop → ℕ → List ℕ → List ℕ
-step s = let a = s .args in withOwn (a .h) (a .t .now) (inputs (a .lits .now) (a .kept .now) (a .row .now) (a .sums .now)) (a .v) (a .l)
+step s = let a = s .args in withOwn (a .h) (a .t .now) (inputs (a .chars .now) (a .kept .now) (a .row .now) (a .sums .now)) (a .v) (a .l)
 
 put-item-requires : tie.Need-put-item-requires Inv-loop μ-loop
 put-item-requires c κs =

@@ -8,7 +8,7 @@ use Rattle.pages.proofs.call.Statement.{statement}
 use Rattle.pages.proofs.call.Tie as tie
 
 abbrev read : tie.Start → Reading
-read s = let a = s .args in reading (a .lits .now) (a .kept .now) (a .row .now) (a .sums .now) (a .job .flag) (a .job .prefix)
+read s = let a = s .args in reading (a .chars .now) (a .kept .now) (a .row .now) (a .sums .now) (a .job .flag) (a .job .prefix)
 
 -- the start, from where the width is known
 abbrev start : tie.After-wide → tie.Start

@@ -8,7 +8,7 @@ use Rattle.report.proofs.call_in.Statement.{statement}
 use Rattle.report.proofs.call_in.Tie as tie
 
 -- from the literals back to CHECK's answer, and from there to the start
-abbrev checked : tie.After-literals-of → tie.After-check-in
+abbrev checked : tie.After-characters-in → tie.After-check-in
 checked l = l .before .before .before .before .before .before
 
 abbrev start : tie.After-check-in → tie.Start
@@ -18,7 +18,7 @@ call-on-requires : tie.Need-call-on-requires
 call-on-requires c κs =
     let l = c .before in
     let k = checked l in
-    accepted-so _ _ _ _ (sym (k .check-in .ensures .0) ∙ l .before .before .enum-told .given .1) (start k .pre .head) (k .check-in .ensures .1) (l .literals-of .ensures)
+    accepted-so _ _ _ _ (sym (k .check-in .ensures .0) ∙ l .before .before .enum-told .given .1) (start k .pre .head) (k .check-in .ensures .1) (l .characters-in .ensures)
 
 returns : tie.Need-returns
 returns c = call-broken _ _ (sym (c .before .before .before .before .before .before .check-in .ensures .0) ∙ c .before .before .checked .given .1) _ _ (c .refusal .ensures) _ _ _
@@ -27,7 +27,7 @@ returns-2 : tie.Need-returns-2
 returns-2 c =
     let l = c .before .before .before .before in
     let k = checked l in
-    call-so _ _ _ _ (sym (k .check-in .ensures .0) ∙ l .before .before .enum-told .given .1) (start k .pre .head) (k .check-in .ensures .1) (l .literals-of .ensures) _ _ _ _ _ _ (c .before .before .call-on .ensures)
+    call-so _ _ _ _ (sym (k .check-in .ensures .0) ∙ l .before .before .enum-told .given .1) (start k .pre .head) (k .check-in .ensures .1) (l .characters-in .ensures) _ _ _ _ _ _ (c .before .before .call-on .ensures)
 
 pub call-in-spec : {M : Type 1} → statement M
 call-in-spec =

@@ -10,10 +10,10 @@ use Rattle.stream.proofs.rows_on.Statement.{statement}
 use Rattle.stream.proofs.rows_on.Tie as tie
 
 abbrev Inv-loop : tie.InvT-loop
-Inv-loop t h lits detail rows size out₀ n state₀ k₀ at₀ verdict₀ out state k at verdict = Underway (rowOn h t lits detail) (row-fits h t lits detail) rows size state₀ out₀ (here k at verdict state out)
+Inv-loop t h chars detail rows size out₀ n state₀ k₀ at₀ verdict₀ out state k at verdict = Underway (rowOn h t chars detail) (row-fits h t chars detail) rows size state₀ out₀ (here k at verdict state out)
 
 abbrev μ-loop : tie.MeasureT-loop
-μ-loop t h lits detail rows size out₀ n state₀ k₀ at₀ verdict₀ out state k at verdict = n - k
+μ-loop t h chars detail rows size out₀ n state₀ k₀ at₀ verdict₀ out state k at verdict = n - k
 
 -- the record that the loop is at ends inside the rows, and its lines inside the output
 add-k : tie.Need-add-k Inv-loop μ-loop
