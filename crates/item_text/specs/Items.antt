@@ -8,13 +8,14 @@ use lib.ListN.{getD, take, drop, replicate}
 use Rattle.splice.specs.Splice.{splice}
 use Rattle.number.specs.Value.{numberOf}
 use Rattle.figures.specs.Number.{numberField, alignLeft}
+use Rattle.edited.specs.Edited.{picturePrint}
 use Rattle.tables.specs.Kinds.{kindNumber, sourceLiteral, sourceField, sourcePage, sourceLine}
 use Rattle.tables.specs.declared.Item.{Item}
-use Rattle.tables.specs.Table.{fieldKind}
+use Rattle.tables.specs.Table.{fieldKind, noPicture}
 use Rattle.rows.specs.Fields.{fieldPart}
 use Rattle.item_text.specs.declared.View.{View}
 
--- what items read besides the tables: the literal bytes, the kept record, the record in hand, and the sums as their footings show them
+-- what items read besides the tables: the characters of the description, which are its literals and pictures, the kept record, the record in hand, and the sums as their footings show them
 pub record Inputs : Type 0 where
   pub chars : List ℕ
   pub kept : List ℕ
@@ -39,29 +40,37 @@ onLine v line = onPage v (v .page) line
 abbrev pub literalText : List ℕ → Item → List ℕ
 literalText chars x = take (x .width) (drop (x .index) chars)
 
+-- document 02, R-4: the picture of an item, as long as the item is wide
+abbrev pub pictureOf : List ℕ → Item → List ℕ
+pictureOf chars x = take (x .width) (drop (x .picture) chars)
+
+-- a number item: by its picture; "An item with no picture prints as before."
+unfoldable pub numberText : List ℕ → Item → ℤ → ℕ → List ℕ
+numberText chars x z decimals = cond (eqb (x .picture) noPicture) (numberField z decimals (x .width)) (picturePrint (pictureOf chars x) z)
+
 -- "Text is left-aligned, cut or padded. Numbers are right-aligned, ..": a field of a record
-unfoldable pub fieldText : List ℕ → List ℕ → Item → List ℕ
-fieldText t rec x =
+unfoldable pub fieldText : List ℕ → List ℕ → List ℕ → Item → List ℕ
+fieldText t chars rec x =
     cond (eqb (fieldKind t (x .index)) kindNumber)
-    (numberField (numberOf (fieldPart t rec (x .index))) (x .decimals) (x .width))
+    (numberText chars x (numberOf (fieldPart t rec (x .index))) (x .decimals))
     (alignLeft (x .width) (fieldPart t rec (x .index)))
 
 -- a page or line number
-abbrev pub counterText : ℕ → Item → List ℕ
-counterText n x = numberField (pos n) 0 (x .width)
+abbrev pub counterText : List ℕ → ℕ → Item → List ℕ
+counterText chars n x = numberText chars x (pos n) 0
 
 -- a sum
-abbrev pub sumText : List ℤ → Item → List ℕ
-sumText sums x = numberField (getD sums (x .index) (pos 0)) (x .decimals) (x .width)
+abbrev pub sumText : List ℕ → List ℤ → Item → List ℕ
+sumText chars sums x = numberText chars x (getD sums (x .index) (pos 0)) (x .decimals)
 
 -- by source kind: "0 literal, 1 field, 2 page counter, 3 line counter, 4 sum". "A line counter item shows its own line's number."
 unfoldable pub sourceText : List ℕ → Inputs → View → Item → List ℕ
 sourceText t inp v x =
     cond (eqb (x .kind) sourceLiteral) (literalText (inp .chars) x)
-    (cond (eqb (x .kind) sourceField) (fieldText t (applied inp v) x)
-    (cond (eqb (x .kind) sourcePage) (counterText (v .page) x)
-    (cond (eqb (x .kind) sourceLine) (counterText (v .line) x)
-    (sumText (inp .sums) x))))
+    (cond (eqb (x .kind) sourceField) (fieldText t (inp .chars) (applied inp v) x)
+    (cond (eqb (x .kind) sourcePage) (counterText (inp .chars) (v .page) x)
+    (cond (eqb (x .kind) sourceLine) (counterText (inp .chars) (v .line) x)
+    (sumText (inp .chars) (inp .sums) x))))
 
 -- "An item flagged indicate prints only the first time its detail prints after a control break; else blanks." Document 02, R-2: "also the first time its
 -- detail prints after a page change". The view's flag says whether this is such a time

@@ -4,8 +4,8 @@ ghost use mathlib.Core.Bool.{cond};
 ghost use Prim.Native.Nat.{_+_, _≤_, _<_};
 ghost use lib.ListN.{length};
 ghost use Rattle.rows.specs.Facts.{FieldFormed};
-ghost use Rattle.item_text.specs.Items.{inputs, onPage, onLine, literalText, fieldText, counterText, sumText, sourceText, atColumn, withItem};
-ghost use Rattle.item_text.specs.Facts.{Fits, ItemReady};
+ghost use Rattle.item_text.specs.Items.{inputs, onPage, onLine, literalText, numberText, fieldText, counterText, sumText, sourceText, atColumn, withItem};
+ghost use Rattle.item_text.specs.Facts.{Fits, Pictured, ItemReady};
 use number::parse;
 use printed::Prefix;
 use tables::Item;
@@ -54,52 +54,60 @@ fn put_literal(chars: &[u8], x: Item, text: &mut [u8])
     );
 }
 
+// Puts a number: through the item's picture, or as it is where there is none.
+fn put_number(chars: &[u8], v: i64, decimals: usize, x: Item, text: &mut [u8])
+    requires { ⌜ Fits x (now text) × ((decimals ≤ 4) × Pictured (now chars) x) ⌝ }
+    ensures { λ _. ⌜ now (text .exit) ≡ atColumn x (numberText (now (chars .entry)) x v decimals) (now (text .entry)) ⌝ }
+{
+    let w = x.width as usize;
+    let at = x.column as usize - 1;
+    let place = x.picture as usize;
+    if place == tables::NO_PICTURE as usize {
+        figures::put_number(v, decimals, w, at, text);
+    } else {
+        edited::put_picture(v, &chars[place..place + w], at, text);
+    }
+}
+
 // Puts a field of the record that applies.
 fn put_field<'a>(
     t: &[u16],
+    chars: &[u8],
     kept: &'a [u8],
     row: &'a [u8],
     from_kept: bool,
     x: Item,
     text: &mut [u8],
 )
-    requires { ⌜ Fits x (now text) × (x .index < 65536 → FieldFormed (now t) (cond «from_kept» (now kept) (now row)) (x .index)) ⌝ }
-    ensures { λ _. ⌜ now (text .exit) ≡ atColumn x (fieldText (now (t .entry)) (cond «from_kept» (now (kept .entry)) (now (row .entry))) x) (now (text .entry)) ⌝ }
+    requires { ⌜ Fits x (now text) × (Pictured (now chars) x × (x .index < 65536 → FieldFormed (now t) (cond «from_kept» (now kept) (now row)) (x .index))) ⌝ }
+    ensures { λ _. ⌜ now (text .exit) ≡ atColumn x (fieldText (now (t .entry)) (now (chars .entry)) (cond «from_kept» (now (kept .entry)) (now (row .entry))) x) (now (text .entry)) ⌝ }
 {
     let i = x.index as usize;
-    let w = x.width as usize;
-    let at = x.column as usize - 1;
     let part = rows::applies(t, kept, row, from_kept, i);
     let kind = tables::field_num(t, i, 0);
     if kind == tables::FIELD_NUMBER {
-        figures::put_number(parse::number(part), x.decimals as usize, w, at, text);
+        put_number(chars, parse::number(part), x.decimals as usize, x, text);
     } else {
-        figures::put_text(part, w, at, text);
+        figures::put_text(part, x.width as usize, x.column as usize - 1, text);
     }
 }
 
 // Puts a page or line number.
-fn put_counter(n: u64, x: Item, text: &mut [u8])
-    requires { ⌜ Fits x (now text) × (n < 68719476736) ⌝ }
-    ensures { λ _. ⌜ now (text .exit) ≡ atColumn x (counterText n x) (now (text .entry)) ⌝ }
+fn put_counter(chars: &[u8], n: u64, x: Item, text: &mut [u8])
+    requires { ⌜ Fits x (now text) × (Pictured (now chars) x × (n < 68719476736)) ⌝ }
+    ensures { λ _. ⌜ now (text .exit) ≡ atColumn x (counterText (now (chars .entry)) n x) (now (text .entry)) ⌝ }
 {
-    figures::put_number(n as i64, 0, x.width as usize, x.column as usize - 1, text);
+    put_number(chars, n as i64, 0, x, text);
 }
 
 // Puts a sum.
-fn put_sum(sums: &[i64], x: Item, text: &mut [u8])
-    requires { ⌜ Fits x (now text) × (x .index < length (now sums)) ⌝ }
-    ensures { λ _. ⌜ now (text .exit) ≡ atColumn x (sumText (now (sums .entry)) x) (now (text .entry)) ⌝ }
+fn put_sum(chars: &[u8], sums: &[i64], x: Item, text: &mut [u8])
+    requires { ⌜ Fits x (now text) × (Pictured (now chars) x × (x .index < length (now sums))) ⌝ }
+    ensures { λ _. ⌜ now (text .exit) ≡ atColumn x (sumText (now (chars .entry)) (now (sums .entry)) x) (now (text .entry)) ⌝ }
 {
     let k = x.index as usize;
     let sum = sums[k];
-    figures::put_number(
-        sum,
-        x.decimals as usize,
-        x.width as usize,
-        x.column as usize - 1,
-        text,
-    );
+    put_number(chars, sum, x.decimals as usize, x, text);
 }
 
 // Puts what an item shows, by its source kind.
@@ -119,10 +127,10 @@ fn put_source<'a>(
     let kind = x.kind;
     match kind {
         0 => put_literal(chars, x, text),
-        1 => put_field(t, kept, row, v.from_kept, x, text),
-        2 => put_counter(v.page as u64, x, text),
-        3 => put_counter(v.line, x, text),
-        _ => put_sum(sums, x, text),
+        1 => put_field(t, chars, kept, row, v.from_kept, x, text),
+        2 => put_counter(chars, v.page as u64, x, text),
+        3 => put_counter(chars, v.line, x, text),
+        _ => put_sum(chars, sums, x, text),
     }
 }
 

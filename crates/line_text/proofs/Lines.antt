@@ -17,7 +17,7 @@ use Rattle.rows.specs.Facts.{Formed}
 use Rattle.rows.proofs.Fields.{field-formed}
 use Rattle.item_text.specs.declared.View.{View}
 use Rattle.item_text.specs.Items.{Inputs, itemText, withItem}
-use Rattle.item_text.specs.Facts.{ItemReady}
+use Rattle.item_text.specs.Facts.{Pictured, ItemReady}
 use Rattle.item_text.proofs.Items.{length-itemText}
 use Rattle.line_text.specs.Lines.{withOwn, lineText, lineBytes}
 use Rattle.line_text.specs.Facts.{ItemIn, LineSize, LineIn, Readable}
@@ -27,15 +27,20 @@ applied-formed : {h : Head} {t : List ℕ} {inp : Inputs} → Readable h t inp �
 applied-formed r true = r .kept
 applied-formed r false = r .row
 
+-- the picture of an item lies inside the characters
+pictured : (h : Head) (x : Item) {chars : List ℕ} → LineSize h chars → ItemIn h x → Pictured chars x
+pictured h x s i e = let p = i .picture e in (omega (arith, p .0, s .characters), p .1)
+
 -- an item of an accepted description is ready
 pub item-ready : (h : Head) (t : List ℕ) (inp : Inputs) (v : View) (x : Item) (text : List ℕ) → LineSize h (inp .chars) → ItemIn h x → Readable h t inp
     → v .line < 68719476736 → h .width ≤ length text → ItemReady t inp v x text
 item-ready h t inp v x text s i r n w = record {
   fits = record { column = i .column; inside = omega (arith, i .inside); decimals = i .decimals };
   kind = i .kind;
-  literal = λ k. omega (arith, i .literal k, s .literals);
+  literal = λ k. omega (arith, i .literal k, s .characters);
   field = λ k l. field-formed (x .index) (i .field k) l (applied-formed r (v .«from_kept»));
   sum = λ k. omega (arith, i .sum k, r .sums);
+  picture = pictured h x s i;
   number = n;
 }
 
@@ -43,7 +48,7 @@ module _ (h : Head) (t : List ℕ) (inp : Inputs) (v : View) where
   length-withItem : (x : Item) (text : List ℕ) → LineSize h (inp .chars) → ItemIn h x → h .width ≤ length text
       → length (withItem t inp v x text) ≡ length text
   length-withItem x text s i r =
-      let w = length-itemText t inp v x (λ k. omega (arith, i .literal k, s .literals)) in
+      let w = length-itemText t inp v x (λ k. omega (arith, i .literal k, s .characters)) (pictured h x s i) in
       length-splice text (x .column - 1) (itemText t inp v x) (omega (arith, i .column, i .inside))
 
   module _ (l : ℕ) (s : LineIn h t (inp .chars) l) where

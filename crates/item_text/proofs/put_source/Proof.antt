@@ -16,11 +16,11 @@ put-source-spec =
     tie.close
     (tie.spec
     (λ c κs. let p = c .before .before .before .before .before .before .before .pre in (p .fits, p .literal (c .before .match .keys1)))
-    (λ c κs. let p = c .before .before .before .before .before .before .before .pre in (p .fits, p .field (c .before .match .keys2)))
+    (λ c κs. let p = c .before .before .before .before .before .before .before .pre in (p .fits, (p .picture, p .field (c .before .match .keys2))))
     (λ c. search needs)
-    (λ c κs. let p = c .before .before .before .before .before .before .before .before .pre in (p .fits, omega arith))
-    (λ c κs. let p = c .before .before .before .before .before .before .before .pre in (p .fits, p .number))
-    (λ c κs. let p = c .before .before .before .before .before .before .before .pre in (p .fits, p .sum (sum-kind (c .before))))
+    (λ c κs. let p = c .before .before .before .before .before .before .before .before .pre in (p .fits, (p .picture, omega arith)))
+    (λ c κs. let p = c .before .before .before .before .before .before .before .pre in (p .fits, (p .picture, p .number)))
+    (λ c κs. let p = c .before .before .before .before .before .before .before .pre in (p .fits, (p .picture, p .sum (sum-kind (c .before)))))
     (λ c. search needs)
     (λ c. rw (c .before .before .before .before .match .keys1) (c .before .before .put-literal .ensures))
     (λ c. search needs)
