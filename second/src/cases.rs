@@ -8,10 +8,13 @@ mod broken;
 mod draft;
 mod features;
 mod keep;
+mod pictures;
 mod rng;
 mod rows;
+mod rule_9;
 mod sample;
 mod sequence;
+mod shown;
 mod states;
 mod tally;
 mod valid;
@@ -28,12 +31,12 @@ use crate::description::check;
 use crate::report::{self, Answer};
 use crate::state::State;
 
-/// A random description; about half of them keep D1 to D8.
+/// A random description of either version; about half of them keep D1 to D8 and rule 9.
 pub fn description(rng: &mut Rng) -> Vec<u8> {
     sample(rng).bytes
 }
 
-/// A random description that keeps D1 to D8.
+/// A random description of either version that keeps D1 to D8 and rule 9.
 pub fn accepted_description(rng: &mut Rng) -> Vec<u8> {
     let draft = match rng.below(100) {
         0..=2 => valid::rich(rng),
@@ -232,7 +235,7 @@ fn show_case(seed: u64) -> i32 {
     println!("description {}", hex(&desc));
     match steps.draft() {
         Ok(draft) => println!("{draft:#?}"),
-        Err(rule) => println!("breaks D{rule}"),
+        Err(rule) => println!("breaks {}", tally::rule_name(rule as usize)),
     }
     let mut last = None;
     let mut code = 0;
