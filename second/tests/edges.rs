@@ -189,9 +189,9 @@ fn version_and_sections(b: &Builder, trailer_bytes: usize) {
         assert_eq!(rule_with(last, version), 1, "version {version}");
     }
     // Every start and every count one up or one down.
-    for i in 0..trailer.len() - 8 {
+    for (i, number) in trailer[..trailer.len() - 8].iter().enumerate() {
         for change in [1, u16::MAX] {
-            assert_eq!(rule_with(i, trailer[i].wrapping_add(change)), 1, "number {i} changed by {change}");
+            assert_eq!(rule_with(i, number.wrapping_add(change)), 1, "number {i} changed by {change}");
         }
     }
     // A byte more or less before the trailer.

@@ -72,7 +72,7 @@ pub fn description(rng: &mut Rng) -> (Vec<u8>, &'static str) {
     loop {
         let draft = valid::with_pictures(rng);
         let (name, broken) = match OF_PICTURES.get(which / 2) {
-            Some(&(used, _, make)) if which % 2 == 0 => (used, use_it(rng, draft, make)),
+            Some(&(used, _, make)) if which.is_multiple_of(2) => (used, use_it(rng, draft, make)),
             Some(&(_, unused, make)) => (unused, leave_it_unused(rng, draft, make)),
             None => {
                 let (name, fault) = OF_ITEMS[which - 2 * OF_PICTURES.len()];
