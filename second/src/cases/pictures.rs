@@ -311,3 +311,97 @@ pub fn r_without_c(rng: &mut Rng) -> Broken {
     let shape = Shape { sign: "R", ..some_shape(rng) };
     broken(&shape.text(), shape.decimals)
 }
+
+#[cfg(test)]
+mod tests {
+    use super::*;
+    use crate::picture;
+
+    /// The clauses about a picture's characters, each looked at apart from the others: the names of those it breaks.
+    fn broken_clauses(text: &[u8]) -> Vec<&'static str> {
+        let place = |at: Option<usize>| at.and_then(|at| text.get(at)).is_some_and(|b| b"Z*9".contains(b));
+        let count = |wanted: &[u8]| text.iter().filter(|byte| wanted.contains(byte)).count();
+        let commas: Vec<usize> = (0..text.len()).filter(|&at| text[at] == b',').collect();
+        let point = text.iter().position(|&byte| byte == b'.');
+        let nine = text.iter().position(|&byte| byte == b'9').unwrap_or(text.len());
+        let unsigned = text.strip_suffix(b"CR").or(text.strip_suffix(b"-")).unwrap_or(text);
+        let signs = text.iter().rev().take_while(|byte| b"CR-".contains(byte)).count();
+        let behind = point.map(|point| &text[point + 1..text.len() - signs]);
+        let nines =
+            |behind: &[u8]| (1..=4).contains(&behind.len()) && behind.iter().all(|&byte| byte == b'9');
+        let clauses = [
+            ("characters", text.iter().all(|byte| b"Z*9,.-CR".contains(byte))),
+            ("digit place", count(b"Z*9") > 0),
+            ("mixed", count(b"Z") == 0 || count(b"*") == 0),
+            ("before the first 9", !text[nine..].iter().any(|byte| b"Z*".contains(byte))),
+            ("comma", commas.iter().all(|&at| place(at.checked_sub(1)) && place(Some(at + 1)))),
+            ("comma behind", commas.iter().all(|&at| point.is_none_or(|point| at < point))),
+            ("points", count(b".") <= 1),
+            ("9s", behind.is_none_or(nines)),
+            ("sign", !unsigned.iter().any(|byte| b"CR-".contains(byte))),
+        ];
+        clauses.into_iter().filter(|(_, holds)| !holds).map(|(name, _)| name).collect()
+    }
+
+    #[test]
+    fn shapes_are_right() {
+        let mut rng = Rng::new(1);
+        for longest in (1..=PICTURE_BYTES).cycle().take(5000) {
+            let shape = shape(&mut rng, longest, true);
+            let text = shape.text();
+            assert!(text.len() <= longest && broken_clauses(&text).is_empty(), "{}", text.escape_ascii());
+            assert!(picture::is_right(&padded(&text)), "{}", text.escape_ascii());
+            assert_eq!(picture::text(&of_length(&mut rng, longest)).len(), longest);
+        }
+    }
+
+    /// One clause alone, but for the two that cannot be: what stands behind the point instead of a 9 breaks that too.
+    #[test]
+    fn each_clause_is_broken_alone() {
+        type Maker = fn(&mut Rng) -> Broken;
+        let rows: [(Maker, &[&str]); 21] = [
+            (unlisted_character, &["characters"]),
+            (blank_inside, &["characters"]),
+            (empty, &["digit place"]),
+            (no_digit_place, &["digit place"]),
+            (fills_mixed, &["mixed"]),
+            (z_behind_a_9, &["before the first 9"]),
+            (star_behind_a_9, &["before the first 9"]),
+            (comma_first, &["comma"]),
+            (comma_last, &["comma"]),
+            (comma_doubled, &["comma"]),
+            (comma_next_to_point, &["comma"]),
+            (comma_behind_point, &["comma behind", "9s"]),
+            (comma_next_to_sign, &["comma"]),
+            (two_points, &["points", "9s"]),
+            (point_then_nothing, &["9s"]),
+            (point_then_five_nines, &["9s"]),
+            (point_then_fill, &["9s"]),
+            (sign_not_at_the_end, &["sign"]),
+            (two_signs, &["sign"]),
+            (c_without_r, &["sign"]),
+            (r_without_c, &["sign"]),
+        ];
+        let mut rng = Rng::new(2);
+        for (nth, (make, clauses)) in rows.into_iter().enumerate() {
+            for _ in 0..1000 {
+                let broken = make(&mut rng);
+                let text = picture::text(&broken.picture);
+                assert_eq!(broken_clauses(text), clauses, "row {nth}: {}", text.escape_ascii());
+                assert!(!picture::is_right(&broken.picture), "{}", text.escape_ascii());
+                assert!(text.is_empty() || text.len() == broken.width as usize, "{}", text.escape_ascii());
+            }
+        }
+    }
+
+    #[test]
+    fn other_padding_stands_behind_a_right_picture() {
+        let mut rng = Rng::new(3);
+        for _ in 0..1000 {
+            let broken = other_padding(&mut rng);
+            let (text, padding) = broken.picture.split_at(broken.width as usize);
+            assert!(picture::is_right(&padded(text)) && padding.iter().any(|&byte| byte != b' '));
+            assert!(!picture::is_right(&broken.picture));
+        }
+    }
+}
