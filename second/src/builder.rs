@@ -1,8 +1,9 @@
 //! Makes description bytes.
 
 use crate::description::{
-    Addend, Counter, Description, Field, Group, Item, Line, ADD_COUNTER, ADD_FIELD, NUMBER, SECTIONS, TEXT,
+    Addend, Counter, Description, Field, Group, Item, Line, Picture, ADD_COUNTER, ADD_FIELD, NUMBER, TEXT,
 };
+use crate::layout::{Layout, PICTURE_BYTES};
 
 /// The tables under work. Every number is open to the caller, so that broken descriptions can be made too.
 #[derive(Clone, Debug, PartialEq, Eq)]
@@ -102,8 +103,26 @@ impl Builder {
         self.addend(ADD_COUNTER, counter, 0)
     }
 
-    /// The trailer's 24 numbers: start and count of each section, then P, H, FD, LD, FT, W, R, version.
-    pub fn trailer(&self) -> [u16; 24] {
+    /// Adds a picture of at most 24 characters, or finds the one that is there already, and gives its index. The
+    /// description is one of version 2.
+    pub fn picture(&mut self, text: &str) -> u16 {
+        self.version = 2;
+        let picture = padded(text.as_bytes());
+        let pictures = &mut self.tables.pictures;
+        if let Some(index) = pictures.iter().position(|other| *other == picture) {
+            return index as u16;
+        }
+        pictures.push(picture);
+        last(pictures)
+    }
+
+    /// The layout of its version; a version that is not accepted is laid out as version 1.
+    fn layout(&self) -> Layout {
+        Layout::of(self.version).unwrap_or_default()
+    }
+
+    /// The trailer's numbers: start and count of each section, then P, H, FD, LD, FT, W, R, version.
+    pub fn trailer(&self) -> Vec<u16> {
         let t = &self.tables;
         let counts = [
             t.fields.len(),
@@ -114,15 +133,15 @@ impl Builder {
             t.counters.len(),
             t.addends.len(),
             t.literals.len(),
+            t.pictures.len(),
         ];
-        let mut trailer = [0; 24];
+        let mut trailer = Vec::new();
         let mut start = 0;
-        for (k, count) in counts.into_iter().enumerate() {
-            trailer[2 * k] = start as u16;
-            trailer[2 * k + 1] = count as u16;
-            start += count * SECTIONS[k].0;
+        for (count, (size, _)) in counts.into_iter().zip(self.layout().sections()) {
+            trailer.extend([start as u16, count as u16]);
+            start += count * size;
         }
-        trailer[16..].copy_from_slice(&[t.p, t.h, t.fd, t.ld, t.ft, t.w, t.r, self.version]);
+        trailer.extend([t.p, t.h, t.fd, t.ld, t.ft, t.w, t.r, self.version]);
         trailer
     }
 
@@ -134,6 +153,7 @@ impl Builder {
     /// The sections followed by any trailer.
     pub fn bytes_with_trailer(&self, trailer: &[u16]) -> Vec<u8> {
         let t = &self.tables;
+        let layout = self.layout();
         let mut bytes = Vec::new();
         let mut put = |numbers: &[u16]| bytes.extend(numbers.iter().flat_map(|number| number.to_le_bytes()));
         t.fields.iter().for_each(|f| put(&[f.kind, f.offset, f.width]));
@@ -142,13 +162,22 @@ impl Builder {
             put(&[g.kind, g.level, g.first_line, g.line_count, g.next_kind, g.next_integer]);
         }
         t.lines.iter().for_each(|l| put(&[l.kind, l.integer, l.first_item, l.item_count]));
-        t.items.iter().for_each(|i| put(&[i.column, i.width, i.source, i.index, i.decimals, i.indicate]));
+        t.items.iter().for_each(|i| put(&i.numbers()[..layout.item_numbers]));
         t.counters.iter().for_each(|c| put(&[c.group, c.reset, c.first_addend, c.addend_count]));
         t.addends.iter().for_each(|a| put(&[a.kind, a.index, a.mask]));
         bytes.extend_from_slice(&t.literals);
+        bytes.extend(t.pictures.iter().filter(|_| layout.has_pictures()).flatten());
         bytes.extend(trailer.iter().flat_map(|number| number.to_le_bytes()));
         bytes
     }
+}
+
+/// A picture's entry: its characters, the first 24 at most, "padded with blanks".
+pub fn padded(text: &[u8]) -> Picture {
+    let mut picture = [b' '; PICTURE_BYTES];
+    let length = text.len().min(PICTURE_BYTES);
+    picture[..length].copy_from_slice(&text[..length]);
+    picture
 }
 
 /// The index of a table's last entry.

@@ -8,10 +8,13 @@ mod broken;
 mod draft;
 mod features;
 mod keep;
+mod pictures;
 mod rng;
 mod rows;
+mod rule_9;
 mod sample;
 mod sequence;
+mod shown;
 mod states;
 mod tally;
 mod valid;
@@ -28,12 +31,12 @@ use crate::description::check;
 use crate::report::{self, Answer};
 use crate::state::State;
 
-/// A random description; about half of them keep D1 to D8.
+/// A random description of either version; about half of them keep D1 to D8 and rule 9.
 pub fn description(rng: &mut Rng) -> Vec<u8> {
     sample(rng).bytes
 }
 
-/// A random description that keeps D1 to D8.
+/// A random description of either version that keeps D1 to D8 and rule 9.
 pub fn accepted_description(rng: &mut Rng) -> Vec<u8> {
     let draft = match rng.below(100) {
         0..=2 => valid::rich(rng),
@@ -41,6 +44,16 @@ pub fn accepted_description(rng: &mut Rng) -> Vec<u8> {
         _ => valid::draft(rng),
     };
     draft.bytes()
+}
+
+/// A random description of version 2 that keeps D1 to D8 and rule 9; nearly all of them have pictures.
+pub fn pictured_description(rng: &mut Rng) -> Vec<u8> {
+    valid::with_pictures(rng).bytes()
+}
+
+/// A random description whose lowest broken rule is `rule`, 1 to 9, and what is wrong with it.
+pub fn broken_description(rng: &mut Rng, rule: u8) -> (Vec<u8>, &'static str) {
+    broken::description(rng, rule)
 }
 
 /// `calls` steps for a description, accepted or not.
@@ -93,8 +106,9 @@ const HELP: &str = "second cases: random cases against the second program
   --all             list every feature with its count
   --case N          show one case: its description, its calls and their answers
 
-Prints how often each rule and refusal was reached. Ends with 1 where one was not reached, or
-where an answer was not what any implementation must give; else with 0.
+Prints how often each rule and refusal was reached. Ends with 1 where one was not reached, where a
+clause of rule 9 or a feature of pictures was not reached 100 times, or where an answer was not what
+any implementation must give; else with 0.
 ";
 
 #[derive(Clone, Copy, Debug)]
@@ -232,7 +246,7 @@ fn show_case(seed: u64) -> i32 {
     println!("description {}", hex(&desc));
     match steps.draft() {
         Ok(draft) => println!("{draft:#?}"),
-        Err(rule) => println!("breaks D{rule}"),
+        Err(rule) => println!("breaks {}", tally::rule_name(rule as usize)),
     }
     let mut last = None;
     let mut code = 0;
@@ -312,7 +326,60 @@ mod tests {
     fn damaged_bytes_have_every_length() {
         let mut rng = Rng::new(6);
         let lengths: Vec<usize> = (0..2000).map(|_| damaged(&mut rng, &[7; 100]).len()).collect();
-        assert!([0, 47, 48, 99, 100, 101].iter().all(|length| lengths.contains(length)));
+        assert!([0, 47, 48, 51, 52, 99, 100, 101].iter().all(|length| lengths.contains(length)));
+    }
+
+    #[test]
+    fn about_half_of_the_descriptions_are_of_version_2() {
+        let mut rng = Rng::new(8);
+        let is_2 = |bytes: &Vec<u8>| bytes.ends_with(&[2, 0]);
+        let accepted = (0..2000).map(|_| accepted_description(&mut rng)).filter(is_2).count();
+        assert!((900..1100).contains(&accepted), "{accepted} of 2000");
+        let checked = (0..2000).map(|_| description(&mut rng)).filter(is_2).count();
+        assert!((900..1400).contains(&checked), "{checked} of 2000");
+        assert!((0..200).all(|_| is_2(&pictured_description(&mut rng))));
+    }
+
+    #[test]
+    fn broken_descriptions_break_their_rule() {
+        let mut rng = Rng::new(9);
+        for rule in (1..=9).cycle().take(1800) {
+            let (bytes, name) = broken_description(&mut rng, rule);
+            assert_eq!(check(&bytes).err(), Some(rule), "{name}");
+        }
+    }
+
+    #[test]
+    fn a_wrong_picture_is_seen() {
+        let mut rng = Rng::new(10);
+        let mut seen = 0;
+        while seen < 50 {
+            let desc = pictured_description(&mut rng);
+            let mut steps = sequence(&mut rng, &desc, 20);
+            let mut last = None;
+            while let Some(step) = steps.step(last.as_ref()) {
+                let (answer, mut output) = play(&desc, &step);
+                seen += usize::from(spoil_a_picture(steps.draft(), &step, &answer, &mut output));
+                last = Some(answer);
+            }
+        }
+    }
+
+    /// Changes a byte of the first number that is printed through a picture, if one is, and sees that it is noticed.
+    fn spoil_a_picture(draft: Result<&Draft, u8>, step: &Step, answer: &Answer, output: &mut [u8]) -> bool {
+        let Ok(draft) = draft else { return false };
+        if answer.count == 0 {
+            return false;
+        }
+        let printed = output[..answer.count].to_vec();
+        let places = keep::places(draft, &printed).expect("lines in order");
+        let Ok(walked) = walk::walk(draft, step, &places) else { return false };
+        let all = shown::all(draft, step, answer.state.page, &walked.rows, &printed);
+        let Some(first) = all.first() else { return false };
+        let at = first.part.as_ptr() as usize - printed.as_ptr() as usize;
+        output[at] = if output[at] == b'x' { b'y' } else { b'x' };
+        assert!(keeps(Ok(draft), step, answer, output).is_err());
+        true
     }
 
     #[test]

@@ -1,19 +1,15 @@
-//! The description file: CHECK and the rules D1 to D8. The tables that it gives are in `tables`.
+//! The description file: CHECK, the rules D1 to D8 and rule 9. The tables that it gives are in `tables`.
 
 pub use crate::tables::*;
 
+use crate::layout::{Layout, PICTURE_BYTES};
+use crate::picture;
 use crate::starts;
 
-pub const TRAILER_BYTES: usize = 48;
-
-/// Bytes of an entry and most entries of each section, in file order.
-pub const SECTIONS: [(usize, usize); 8] =
-    [(6, 32), (2, 8), (12, 32), (8, 128), (12, 512), (8, 32), (6, 128), (1, 4096)];
-
-/// CHECK: the tables, or the lowest broken rule, 1 to 8.
+/// CHECK: the tables, or the lowest broken rule, 1 to 9.
 pub fn check(bytes: &[u8]) -> Result<Description, u8> {
     let description = d1(bytes).ok_or(1)?;
-    let rules: [fn(&Description) -> bool; 7] = [d2, d3, d4, d5, d6, d7, d8];
+    let rules: [fn(&Description) -> bool; 8] = [d2, d3, d4, d5, d6, d7, d8, rule_9];
     for (rule, number) in rules.iter().zip(2..) {
         if !rule(&description) {
             return Err(number);
@@ -25,25 +21,27 @@ pub fn check(bytes: &[u8]) -> Result<Description, u8> {
 // D1
 
 /// "At least 48 bytes; version 1; first start 0, each section beginning where the one before ends, literals
-/// ending at the trailer", and no section with too many entries.
+/// ending at the trailer", and no section with too many entries. R-4's version 2 asks the same of its own layout: at
+/// least 52 bytes, and its pictures end at the trailer.
 fn d1(bytes: &[u8]) -> Option<Description> {
-    let (body, trailer) = bytes.split_last_chunk::<TRAILER_BYTES>()?;
+    // The version is the file's last number: it tells how long the trailer is.
+    let (_, version) = bytes.split_last_chunk()?;
+    let layout = Layout::of(u16::from_le_bytes(*version))?;
+    let (body, trailer) = bytes.split_at(bytes.len().checked_sub(layout.trailer_bytes())?);
     let trailer = numbers(trailer);
-    let (sections, limits) = trailer.split_at(16);
-    let &[p, h, fd, ld, ft, w, r, version] = limits else { return None };
-    if version != 1 {
-        return None;
-    }
-    let sections = sections_of(body, sections)?;
+    let (sections, limits) = trailer.split_at(2 * layout.section_count);
+    let &[p, h, fd, ld, ft, w, r, _] = limits else { return None };
+    let sections = sections_of(body, sections, layout)?;
     Some(Description {
         fields: entries(sections[0], Field::from),
         controls: numbers(sections[1]),
         groups: entries(sections[2], Group::from),
         lines: entries(sections[3], Line::from),
-        items: entries(sections[4], Item::from),
+        items: items(sections[4], layout),
         counters: entries(sections[5], Counter::from),
         addends: entries(sections[6], Addend::from),
         literals: sections[7].to_vec(),
+        pictures: sections.get(8).map_or(Vec::new(), |section| pictures(section)),
         p,
         h,
         fd,
@@ -55,10 +53,10 @@ fn d1(bytes: &[u8]) -> Option<Description> {
 }
 
 /// The bytes of each section, by the trailer's starts and counts.
-fn sections_of<'a>(body: &'a [u8], starts_and_counts: &[u16]) -> Option<Vec<&'a [u8]>> {
-    let mut sections = Vec::with_capacity(SECTIONS.len());
+fn sections_of<'a>(body: &'a [u8], starts_and_counts: &[u16], layout: Layout) -> Option<Vec<&'a [u8]>> {
+    let mut sections = Vec::with_capacity(layout.section_count);
     let mut place = 0;
-    for (pair, (size, most)) in starts_and_counts.chunks_exact(2).zip(SECTIONS) {
+    for (pair, (size, most)) in starts_and_counts.chunks_exact(2).zip(layout.sections()) {
         let (start, count) = (usize::from(pair[0]), usize::from(pair[1]));
         if start != place || count > most {
             return None;
@@ -78,6 +76,20 @@ fn numbers(bytes: &[u8]) -> Vec<u16> {
 fn entries<const N: usize, T>(section: &[u8], entry: fn([u16; N]) -> T) -> Vec<T> {
     let number = |bytes: &[u8], i: usize| u16::from_le_bytes([bytes[2 * i], bytes[2 * i + 1]]);
     section.chunks_exact(2 * N).map(|bytes| entry(std::array::from_fn(|i| number(bytes, i)))).collect()
+}
+
+/// The items, of as many numbers as the version gives them; a picture that it does not give is none.
+fn items(section: &[u8], layout: Layout) -> Vec<Item> {
+    let item = |entry: &[u8]| {
+        let mut all = [NO_PICTURE; 7];
+        all[..layout.item_numbers].copy_from_slice(&numbers(entry));
+        Item::from(all)
+    };
+    section.chunks_exact(2 * layout.item_numbers).map(item).collect()
+}
+
+fn pictures(section: &[u8]) -> Vec<Picture> {
+    section.chunks_exact(PICTURE_BYTES).map(|entry| std::array::from_fn(|i| entry[i])).collect()
 }
 
 // D2
@@ -312,4 +324,29 @@ fn counter_addend_is_right(d: &Description, c: usize, addend: &Addend) -> bool {
     let level = |group: u16| d.groups[usize::from(group)].level;
     let own = d.counters[c].group;
     addend.mask == 0 && (level(counter.group) > level(own) || (counter.group == own && named < c))
+}
+
+// Rule 9
+
+/// R-4: "all else asked here of a picture, used or not, and of its item and index is rule 9 of refusal 1, after D8".
+fn rule_9(d: &Description) -> bool {
+    d.pictures.iter().all(picture::is_right) && d.items.iter().all(|item| picture_suits(d, item))
+}
+
+/// "A last number on each item, its index there or 65535 for none, which text and literal items have"; "the item's
+/// width is the picture's length"; "as many 9s as the item has decimals".
+fn picture_suits(d: &Description, item: &Item) -> bool {
+    if item.picture == NO_PICTURE {
+        return true;
+    }
+    let shows_text = match item.source {
+        LITERAL => true,
+        FIELD => d.fields[usize::from(item.index)].kind == TEXT,
+        _ => false,
+    };
+    let suits = |picture: &Picture| {
+        usize::from(item.width) == picture::text(picture).len()
+            && usize::from(item.decimals) == picture::decimals(picture)
+    };
+    !shows_text && d.pictures.get(usize::from(item.picture)).is_some_and(suits)
 }

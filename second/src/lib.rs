@@ -1,17 +1,19 @@
-//! The second program: document 01, and requests of document 02, implemented plainly, to compare with the
-//! first.
+//! The second program: document 01, and requests of document 02, implemented plainly, to compare with
+//! the first.
 //!
 //! description bytes -> `description` -> tables; state -> `state` -> rules; a call -> `report`:
 //! which groups are due (`turns`), where they land (`place`), what they print (`print`). `feeder` makes calls of bytes cut
 //! anywhere.
 //!
-//! Each module uses only those before it in this order (`tests/modules.rs`): tables, starts, description, record, state, sums,
-//! turns, place, print, report, feeder, builder, source, cases.
+//! Each module uses only those before it in this order (`tests/modules.rs`): layout, tables, picture, starts, description,
+//! record, state, sums, turns, place, print, report, feeder, builder, source, cases.
 
 pub mod builder;
 pub mod cases;
 pub mod description;
 pub mod feeder;
+pub mod layout;
+pub mod picture;
 pub mod place;
 pub mod print;
 pub mod record;

@@ -10,11 +10,11 @@ use second::state::State;
 use second::{cases, description, source};
 
 const USAGE: &str = "\
-second: document 01, and R-1 and R-2 of document 02, a second time, on its own
+second: document 01, and R-1, R-2 and R-4 of document 02, a second time, on its own
 
 usage: second COMMAND ...
 
-  second check DESCRIPTION                    says whether a description keeps D1 to D8
+  second check DESCRIPTION                    says whether a description keeps D1 to D8 and rule 9
   second print DESCRIPTION RECORDS [-o OUT]   prints the sheet of a record file
   second feed DESCRIPTION [-n N] [-o OUT]     prints the sheet of standard input, fed in pieces
   second build SOURCE OUT                     makes a description from its text source
@@ -26,7 +26,8 @@ second COMMAND --help tells more. Exit code: 0 done, 1 refused or failed, 2 bad 
 const CHECK_USAGE: &str = "\
 usage: second check DESCRIPTION
 
-Prints `accepted`, or on standard error `refused 1, rule N` with the lowest broken rule.
+Prints `accepted`, or on standard error `refused 1, rule N` with the lowest broken rule: 1 to 8 for D1 to D8, or 9.
+Descriptions are of version 1 or, with pictures, version 2.
 ";
 
 const PRINT_USAGE: &str = "\
@@ -49,7 +50,8 @@ before it stands. Input that ends within a row is refusal 10, with the count of 
 const BUILD_USAGE: &str = "\
 usage: second build SOURCE OUT
 
-Makes a description from its text source. A description that breaks a rule is not written.
+Makes a description from its text source: version 2 where it uses a picture or says so, else version 1. A description
+that breaks a rule, D1 to D8 or 9, is not written.
 
 ";
 

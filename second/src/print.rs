@@ -1,6 +1,9 @@
 //! What groups print: the bytes of each line.
 
-use crate::description::{Description, Item, Line, FIELD, LINE_COUNTER, LITERAL, NUMBER, PAGE_COUNTER};
+use crate::description::{
+    Description, Item, Line, FIELD, LINE_COUNTER, LITERAL, NO_PICTURE, NUMBER, PAGE_COUNTER,
+};
+use crate::picture;
 use crate::place::Landed;
 use crate::record;
 
@@ -57,15 +60,23 @@ fn write_item(d: &Description, landed: &Landed, item: &Item, line: u32, record: 
             let field = &d.fields[index];
             let bytes = record::bytes_of(field, record);
             if field.kind == NUMBER {
-                write_number(record::value(bytes), item.decimals, part);
+                show_number(d, item, record::value(bytes), part);
             } else {
                 write_text(bytes, part);
             }
         }
-        PAGE_COUNTER => write_number(i64::from(landed.page), 0, part),
+        PAGE_COUNTER => show_number(d, item, i64::from(landed.page), part),
         // "A line counter item shows its own line's number."
-        LINE_COUNTER => write_number(i64::from(line), 0, part),
-        _ => write_number(landed.turn.sums[index], item.decimals, part),
+        LINE_COUNTER => show_number(d, item, i64::from(line), part),
+        _ => show_number(d, item, landed.turn.sums[index], part),
+    }
+}
+
+/// Through the item's picture; "an item with no picture prints as before".
+fn show_number(d: &Description, item: &Item, value: i64, part: &mut [u8]) {
+    match item.picture {
+        NO_PICTURE => write_number(value, item.decimals, part),
+        index => picture::write(&d.pictures[usize::from(index)], value, part),
     }
 }
 

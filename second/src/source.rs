@@ -1,14 +1,18 @@
 //! The text source of a description: one line an entry, built into a `Builder`.
 
-use crate::builder::Builder;
+use crate::builder::{padded, Builder};
 use crate::description::{
     Item, CF, CH, DE, FIELD, FINAL, LINE_ABSOLUTE, LINE_COUNTER, LINE_NEXT_PAGE, LINE_RELATIVE,
-    NEXT_ABSOLUTE, NEXT_PAGE, NEXT_RELATIVE, PAGE_COUNTER, PF, PH, RF, RH, SUM,
+    NEXT_ABSOLUTE, NEXT_PAGE, NEXT_RELATIVE, NO_PICTURE, PAGE_COUNTER, PF, PH, RF, RH, SUM, TEXT,
 };
+use crate::layout::PICTURE_BYTES;
+use crate::picture;
 
 /// The format, for `second build --help`.
 pub const FORMAT: &str = r#"One line an entry; words stand apart by blanks; '#' begins a comment. Indent as you like.
 
+  version 2                                       a version 2 description; one picture asks for it too,
+                                                  without either it is version 1
   page P heading H first FD last LD footing FT    the page's limits
   width W                                         characters of a line
   record R                                        bytes of a record
@@ -20,9 +24,13 @@ pub const FORMAT: &str = r#"One line an entry; words stand apart by blanks; '#' 
   next absolute N | next relative N | next page   the group's next group
   line absolute|next-page|relative N              begins a line of the group
   literal COLUMN "TEXT" [indicate]                an item; "" in the text is one quote
-  item COLUMN WIDTH field NAME [decimals N] [indicate]
-  item COLUMN WIDTH sum NAME [decimals N]
-  item COLUMN WIDTH page | item COLUMN WIDTH line the page counter, the line counter
+  item COLUMN WIDTH field NAME [decimals N] [picture "PICTURE"] [indicate]
+  item COLUMN WIDTH sum NAME [decimals N] [picture "PICTURE"]
+  item COLUMN WIDTH page [picture "PICTURE"]      the page counter
+  item COLUMN WIDTH line [picture "PICTURE"]      the line counter
+                                                  a picture shows a number: Z, *, 9, commas, a point, CR or -
+                                                  at the end; WIDTH is its length; without decimals, those
+                                                  are its 9s behind the point
 
   sum NAME [reset CONTROL]                        begins a counter of the group (a CF);
                                                   without reset, the group's own level
@@ -102,6 +110,8 @@ impl Reader {
     fn entry(&mut self, words: &[&str]) -> Result<(), String> {
         match words {
             [] => {}
+            ["version", "2"] => self.builder.version = 2,
+            ["version", version] => return Err(format!("a source asks for version 2, not {version}")),
             ["page", p, "heading", h, "first", fd, "last", ld, "footing", ft] => {
                 let tables = &mut self.builder.tables;
                 (tables.p, tables.h, tables.fd) = (number(p)?, number(h)?, number(fd)?);
@@ -200,14 +210,27 @@ impl Reader {
             ["sum", name, rest @ ..] => (SUM, self.counter_index(name)?, rest),
             _ => return Err("an item shows a field, a sum, page or line".to_string()),
         };
-        let (decimals, indicate) = match rest {
-            [] => (0, 0),
-            ["indicate"] => (0, 1),
-            ["decimals", n] => (number(n)?, 0),
-            ["decimals", n, "indicate"] => (number(n)?, 1),
+        let (decimals, rest) = match rest {
+            ["decimals", n, rest @ ..] => (Some(number(n)?), rest),
+            rest => (None, rest),
+        };
+        let (picture, rest) = match rest {
+            ["picture", text, rest @ ..] => (Some(quoted_picture(text, width)?), rest),
+            rest => (None, rest),
+        };
+        let indicate = match rest {
+            [] => 0,
+            ["indicate"] => 1,
             _ => return Err(format!("not understood: {}", rest.join(" "))),
         };
-        self.builder.item(Item { column, width, source, index, decimals, indicate });
+        let is_text = source == FIELD && self.builder.tables.fields[usize::from(index)].kind == TEXT;
+        if is_text && picture.is_some() {
+            return Err("a picture is for a number, and the field is text".to_string());
+        }
+        let nines = picture.map_or(0, |text| picture::decimals(&padded(text.as_bytes())) as u16);
+        let decimals = decimals.unwrap_or(nines);
+        let picture = picture.map_or(NO_PICTURE, |text| self.builder.picture(text));
+        self.builder.item(Item { column, width, source, index, decimals, indicate, picture });
         Ok(())
     }
 
@@ -240,6 +263,19 @@ impl Reader {
         let level = self.builder.tables.controls.iter().position(|&control| control == field);
         level.map(|level| level as u16).ok_or(format!("{control} is no control"))
     }
+}
+
+/// The characters of a picture that goes into its entry, and whose length is the item's width.
+fn quoted_picture(word: &str, width: u16) -> Result<&str, String> {
+    let text = word.strip_prefix('"').ok_or("a picture stands in quotes")?;
+    if text.len() > PICTURE_BYTES {
+        return Err(format!("a picture has up to {PICTURE_BYTES} characters, this one {}", text.len()));
+    }
+    let length = picture::text(&padded(text.as_bytes())).len();
+    if usize::from(width) != length {
+        return Err(format!("the item's width is {width}, its picture's length {length}"));
+    }
+    Ok(text)
 }
 
 fn index(names: &[String], name: &str) -> Option<u16> {

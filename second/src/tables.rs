@@ -1,5 +1,7 @@
 //! The tables of a description, and what they say of one another.
 
+use crate::layout::PICTURE_BYTES;
+
 // Field kinds.
 pub const TEXT: u16 = 0;
 pub const NUMBER: u16 = 1;
@@ -33,6 +35,9 @@ pub const FIELD: u16 = 1;
 pub const PAGE_COUNTER: u16 = 2;
 pub const LINE_COUNTER: u16 = 3;
 pub const SUM: u16 = 4;
+
+/// An item's picture index where it has none.
+pub const NO_PICTURE: u16 = 65535;
 
 // Addend kinds.
 pub const ADD_FIELD: u16 = 0;
@@ -82,7 +87,7 @@ impl From<[u16; 4]> for Line {
     }
 }
 
-#[derive(Clone, Copy, Debug, Default, PartialEq, Eq)]
+#[derive(Clone, Copy, Debug, PartialEq, Eq)]
 pub struct Item {
     pub column: u16,
     pub width: u16,
@@ -90,11 +95,26 @@ pub struct Item {
     pub index: u16,
     pub decimals: u16,
     pub indicate: u16,
+    /// Index of its picture, or `NO_PICTURE`.
+    pub picture: u16,
 }
 
-impl From<[u16; 6]> for Item {
-    fn from([column, width, source, index, decimals, indicate]: [u16; 6]) -> Item {
-        Item { column, width, source, index, decimals, indicate }
+impl Default for Item {
+    fn default() -> Item {
+        Item::from([0, 0, 0, 0, 0, 0, NO_PICTURE])
+    }
+}
+
+impl From<[u16; 7]> for Item {
+    fn from([column, width, source, index, decimals, indicate, picture]: [u16; 7]) -> Item {
+        Item { column, width, source, index, decimals, indicate, picture }
+    }
+}
+
+impl Item {
+    /// Its numbers in file order; version 1 has the first six.
+    pub fn numbers(&self) -> [u16; 7] {
+        [self.column, self.width, self.source, self.index, self.decimals, self.indicate, self.picture]
     }
 }
 
@@ -125,7 +145,10 @@ impl From<[u16; 3]> for Addend {
     }
 }
 
-/// The decoded tables of a description.
+/// A picture, padded with blanks.
+pub type Picture = [u8; PICTURE_BYTES];
+
+/// The decoded tables of a description, whatever its version.
 #[derive(Clone, Debug, Default, PartialEq, Eq)]
 pub struct Description {
     pub fields: Vec<Field>,
@@ -136,6 +159,7 @@ pub struct Description {
     pub counters: Vec<Counter>,
     pub addends: Vec<Addend>,
     pub literals: Vec<u8>,
+    pub pictures: Vec<Picture>,
     pub p: u16,
     pub h: u16,
     pub fd: u16,

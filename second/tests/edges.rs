@@ -1,10 +1,11 @@
-//! Every edge of D1 to D8 from both sides: the last value accepted, the first value refused.
+//! Every edge of D1 to D8 and of rule 9 from both sides: the last value accepted, the first value refused.
 
 mod common;
 
 use common::item;
-use second::builder::Builder;
+use second::builder::{padded, Builder};
 use second::description::*;
+use second::picture;
 
 /// What is changed, the rule it may break, a change that is accepted, and one that is refused.
 type Edge = (&'static str, u8, fn(&mut Builder), fn(&mut Builder));
@@ -14,13 +15,18 @@ fn rule(b: &Builder) -> u8 {
 }
 
 fn run(edges: &[Edge]) {
+    run_on(base, edges);
+    run_on(base_2, edges);
+}
+
+fn run_on(base: fn() -> Builder, edges: &[Edge]) {
     for (what, broken, accepted, refused) in edges {
         let mut b = base();
         accepted(&mut b);
-        assert_eq!(rule(&b), 0, "accepted side of: {what}");
+        assert_eq!(rule(&b), 0, "accepted side of: {what}, version {}", b.version);
         let mut b = base();
         refused(&mut b);
-        assert_eq!(rule(&b), *broken, "refused side of: {what}");
+        assert_eq!(rule(&b), *broken, "refused side of: {what}, version {}", b.version);
     }
 }
 
@@ -98,6 +104,11 @@ fn base() -> Builder {
     b
 }
 
+/// The same in version 2, without a picture.
+fn base_2() -> Builder {
+    Builder { version: 2, ..base() }
+}
+
 fn group(b: &mut Builder, g: usize) -> &mut Group {
     &mut b.tables.groups[g]
 }
@@ -122,10 +133,11 @@ fn add(b: &mut Builder, kind: u16, level: u16) {
 }
 
 #[test]
-fn the_base_is_accepted() {
-    assert_eq!(rule(&base()), 0);
-    let tables = check(&base().bytes()).unwrap();
-    assert_eq!(tables, base().tables);
+fn the_bases_are_accepted() {
+    for b in [base(), base_2(), pictured()] {
+        assert_eq!(rule(&b), 0);
+        assert_eq!(check(&b.bytes()).unwrap(), b.tables);
+    }
 }
 
 // D1
@@ -141,27 +153,50 @@ fn d1_at_least_48_bytes() {
 }
 
 #[test]
+fn d1_version_2_at_least_52_bytes() {
+    let empty = Builder { version: 2, ..Builder::new(30, 2, 8, 20, 24, 40, 40) }.bytes();
+    assert_eq!(empty.len(), 52);
+    assert_eq!(check(&empty), Err(5));
+    for cut in 1..52 {
+        assert_eq!(check(&empty[cut..]), Err(1), "{} bytes", 52 - cut);
+    }
+    // 48 to 51 bytes that are enough for version 1, but say version 2.
+    for length in 48..52 {
+        let mut bytes = vec![0; length];
+        bytes[length - 2] = 2;
+        assert_eq!(check(&bytes), Err(1), "{length} bytes");
+    }
+}
+
+#[test]
 fn d1_version_and_sections() {
-    let b = base();
+    version_and_sections(&base(), 48);
+    version_and_sections(&base_2(), 52);
+    version_and_sections(&pictured(), 52);
+}
+
+fn version_and_sections(b: &Builder, trailer_bytes: usize) {
     let trailer = b.trailer();
-    let rule_with = |trailer: [u16; 24]| check(&b.bytes_with_trailer(&trailer)).err().unwrap_or(0);
-    assert_eq!(rule_with(trailer), 0);
-    for version in [0, 2, 257, 65535] {
-        let mut changed = trailer;
-        changed[23] = version;
-        assert_eq!(rule_with(changed), 1, "version {version}");
+    assert_eq!(2 * trailer.len(), trailer_bytes);
+    let rule_with = |place: usize, number: u16| {
+        let mut changed = trailer.clone();
+        changed[place] = number;
+        check(&b.bytes_with_trailer(&changed)).err().unwrap_or(0)
+    };
+    let last = trailer.len() - 1;
+    assert_eq!(rule_with(last, b.version), 0);
+    for version in [0, 1, 2, 3, 256, 257, 258, 65535].into_iter().filter(|&version| version != b.version) {
+        assert_eq!(rule_with(last, version), 1, "version {version}");
     }
     // Every start and every count one up or one down.
-    for i in 0..16 {
+    for (i, number) in trailer[..trailer.len() - 8].iter().enumerate() {
         for change in [1, u16::MAX] {
-            let mut changed = trailer;
-            changed[i] = changed[i].wrapping_add(change);
-            assert_eq!(rule_with(changed), 1, "number {i} changed by {change}");
+            assert_eq!(rule_with(i, number.wrapping_add(change)), 1, "number {i} changed by {change}");
         }
     }
     // A byte more or less before the trailer.
     let bytes = b.bytes();
-    let start = bytes.len() - 48;
+    let start = bytes.len() - trailer_bytes;
     let mut longer = bytes.clone();
     longer.insert(start, b' ');
     assert_eq!(check(&longer), Err(1));
@@ -252,6 +287,21 @@ fn d1_most_entries() {
     assert_eq!((b.tables.groups.len(), rule(&b)), (32, 5));
     b.group(DE, 0);
     assert_eq!((b.tables.groups.len(), rule(&b)), (33, 1));
+}
+
+#[test]
+fn d1_most_pictures() {
+    for mut b in [base_2(), pictured()] {
+        b.tables.pictures.resize(64, padded(b"9"));
+        assert_eq!(rule(&b), 0);
+        b.tables.pictures.push(padded(b"9"));
+        assert_eq!(rule(&b), 1);
+        // One more is D1 also where the pictures are not what rule 9 asks for.
+        b.tables.pictures.fill(padded(b""));
+        assert_eq!(rule(&b), 1);
+        b.tables.pictures.pop();
+        assert_eq!(rule(&b), 9);
+    }
 }
 
 // D2
@@ -745,12 +795,180 @@ fn counter_0_twice() -> Builder {
     b
 }
 
+// Rule 9
+
+// The pictures of `pictured`.
+const COUNT: usize = 0;
+const UNUSED: usize = 5;
+
+/// The base in version 2 with a picture on each kind of number item, and one that none uses.
+fn pictured() -> Builder {
+    let mut b = base_2();
+    let used = [
+        (DE0, 1, "ZZ,ZZ9.99-"),
+        (PH_, 1, "ZZZZZZ"),
+        (PH_, 2, "999"),
+        (CF2, 0, "***,***,***,**9.99CR"),
+        (CF1, 1, "*****9"),
+    ];
+    for (g, i, text) in used {
+        item_of(&mut b, g, i).picture = b.picture(text);
+    }
+    b.picture("ZZ9");
+    b
+}
+
+#[test]
+fn rule_9_items() {
+    run_on(
+        pictured,
+        &[
+            ("the picture exists", 9, |b| item_of(b, CF2, 1).picture = 65535, |b| use_on(b, CF2, 1, 6)),
+            ("no number but 65535 is none", 9, same, |b| use_on(b, CF2, 1, 65534)),
+            ("none on text", 9, same, |b| text_as_wide(b, DE0, 0)),
+            ("none on text outside a detail", 9, same, |b| text_as_wide(b, CH1, 0)),
+            ("none on a literal", 9, same, |b| text_as_wide(b, RH_, 0)),
+            ("no picture that does not exist on text", 9, same, |b| use_on(b, DE0, 0, 6)),
+            ("width one more", 9, same, |b| item_of(b, CF1, 1).width = 7),
+            ("width one less", 9, same, |b| item_of(b, CF1, 1).width = 5),
+            ("the item's width to 24", 9, |b| wide(b, 24), |b| wide(b, 25)),
+            ("decimals one more", 9, same, |b| item_of(b, DE0, 1).decimals = 3),
+            ("decimals one less", 9, same, |b| item_of(b, DE0, 1).decimals = 1),
+            ("no decimals with a point", 9, same, |b| item_of(b, DE0, 1).decimals = 0),
+            ("decimals without a point", 9, |b| pointless(b, 0), |b| pointless(b, 1)),
+            ("a point on the page counter", 9, same, |b| b.tables.pictures[1] = padded(b"ZZZZ.9")),
+            ("a point on the line counter", 9, same, |b| b.tables.pictures[2] = padded(b"9.9")),
+            ("a picture used twice", 9, |b| use_on(b, PF_, 0, 1), |b| use_on(b, PF_, 0, 2)),
+        ],
+    );
+    // Rule 9 is not asked of version 1: what the builder has of pictures is not in the file.
+    let mut b = pictured();
+    b.tables.pictures[UNUSED] = padded(b"?");
+    assert_eq!(rule(&b), 9);
+    b.version = 1;
+    assert_eq!(rule(&b), 0);
+}
+
+fn use_on(b: &mut Builder, g: usize, i: usize, picture: u16) {
+    item_of(b, g, i).picture = picture;
+}
+
+/// A picture on an item that shows text, of its own width.
+fn text_as_wide(b: &mut Builder, g: usize, i: usize) {
+    let width = item_of(b, g, i).width;
+    let picture = b.picture(&"9".repeat(usize::from(width)));
+    use_on(b, g, i, picture);
+}
+
+/// The long number through a picture of 24 characters, in an item of this width.
+fn wide(b: &mut Builder, width: u16) {
+    let picture = b.picture("ZZZ,ZZZ,ZZZ,ZZZ,ZZZ,ZZ9-");
+    *item_of(b, DE0, 0) = Item { picture, ..item(1, width, FIELD, 2) };
+    item_of(b, DE0, 1).column = 27;
+    item_of(b, DE0, 2).column = 37;
+    item_of(b, DE0, 2).width = 4;
+}
+
+/// A field's picture without a point, its item with these decimals.
+fn pointless(b: &mut Builder, decimals: u16) {
+    b.tables.pictures[COUNT] = padded(b"ZZ,ZZZ,ZZ9");
+    item_of(b, DE0, 1).decimals = decimals;
+}
+
+/// The rules broken where a picture is on an item of its length, and where none uses it.
+fn rules_of_picture(entry: Picture) -> (u8, u8) {
+    let mut b = pictured();
+    b.tables.pictures[UNUSED] = entry;
+    let unused = rule(&b);
+    let mut b = Builder::new(30, 2, 8, 20, 24, 40, 40);
+    b.version = 2;
+    b.number(0, 18);
+    b.group(DE, 0);
+    b.line(LINE_RELATIVE, 1);
+    let width = picture::text(&entry).len().max(1) as u16;
+    let decimals = picture::decimals(&entry).min(4) as u16;
+    b.item(Item { decimals, picture: 0, ..item(1, width, FIELD, 0) });
+    b.tables.pictures.push(entry);
+    (rule(&b), unused)
+}
+
+#[test]
+fn rule_9_pictures() {
+    let rows: &[(&str, &[&str], &[&str])] = &[
+        (
+            "characters",
+            &["Z", "*", "9", "9-", "9CR", "Z,Z", "9.9"],
+            &["z", "0", "8", "X", "+9", "$9", "9+", "9/9", "9B9", "9V9", "cr", "9cr", "9DB", "é9"],
+        ),
+        ("no blank inside", &["9", "99"], &[" 9", "9 9", "9 -", "9 CR", "9C R", "9. 9"]),
+        ("not empty", &["9"], &[""]),
+        ("a digit place", &["9-", "ZCR", ".9", "*"], &["-", "CR", ".", "."]),
+        ("never mixed", &["ZZ", "**"], &["Z*", "*Z", "ZZ*9", "*Z,999.99CR"]),
+        (
+            "Z and * before the first 9",
+            &["Z9", "*9", "Z,Z99"],
+            &["9Z", "9*", "Z9Z", "*9*", "9,ZZ9", "99,*.9"],
+        ),
+        ("a comma not first", &["9,9"], &[",9", ",99", ",", ",9.9"]),
+        ("a comma not last", &["9,9"], &["9,", "Z,ZZZ,"]),
+        ("commas not side by side", &["9,9,9", "Z,Z,Z"], &["9,,9", "Z,,,ZZ9"]),
+        ("a comma not next to the point", &["9,9.9"], &["9,.9", "9.,9", ",.9"]),
+        ("a comma before the point", &["9,999.9999"], &["9.9,9", "9.99,99", ".9,9"]),
+        ("a comma not next to the sign", &["9,9-", "9,9CR"], &["9,-", "9,CR"]),
+        ("one point", &["9.9", "9"], &["9.9.9", "9..9", "..9", "9.9."]),
+        (
+            "1 to 4 9s behind the point",
+            &["9.9", "9.99", "9.999", "9.9999", ".9999CR"],
+            &["9.", "9.-", "9.CR", "9.99999", ".99999", "9.999999"],
+        ),
+        (
+            "9s alone behind the point",
+            &["Z.9", "*.99", ".9"],
+            &["Z.Z", "Z.ZZ", "*.**", "*.*9", "Z.Z9", "Z.9Z"],
+        ),
+        (
+            "the sign at the end",
+            &["9-", "9CR", "9.9-"],
+            &["-9", "CR9", "9-9", "9CR9", "9-.9", "9CR.9", "9.-9"],
+        ),
+        ("one sign", &["9-", "9CR"], &["9--", "9CRCR", "9-CR", "9CR-", "-9-"]),
+        ("C and R", &["9CR"], &["9C", "9R", "9RC", "9CRR", "9CCR", "C9R", "9.9C", "9.9R"]),
+        (
+            "up to 24 characters",
+            &["999999999999999999999999", "ZZZ,ZZZ,ZZZ,ZZZ,ZZZ,ZZCR", "*******************.9999"],
+            &["ZZZ,ZZZ,ZZZ,ZZZ,ZZZ,ZZZC", "99999999999999999999999,"],
+        ),
+    ];
+    for (what, accepted, refused) in rows {
+        for text in *accepted {
+            assert_eq!(rules_of_picture(padded(text.as_bytes())), (0, 0), "accepted side of: {what}, {text}");
+        }
+        for text in *refused {
+            assert_eq!(rules_of_picture(padded(text.as_bytes())), (9, 9), "refused side of: {what}, {text}");
+        }
+    }
+}
+
+#[test]
+fn rule_9_padding() {
+    for byte in (0..=255).filter(|&byte| byte != b' ') {
+        for at in [3, 4, 23] {
+            let mut entry = padded(b"ZZ9");
+            entry[at] = byte;
+            // Some of them make a picture of four characters.
+            let makes_one = at == 3 && b"9-".contains(&byte);
+            let broken = if makes_one { 0 } else { 9 };
+            assert_eq!(rules_of_picture(entry), (broken, broken), "byte {byte} at {at}");
+        }
+    }
+}
+
 // The lowest broken rule
 
 #[test]
 fn the_lowest_broken_rule_is_given() {
-    let breakers: [fn(&mut Builder); 8] = [
-        |b| b.version = 2,
+    let breakers: [fn(&mut Builder); 9] = [
+        |b| b.tables.pictures.resize(65, padded(b"9")),
         |b| b.tables.w = 133,
         |b| b.tables.fields[0].width = 0,
         |b| b.tables.controls[1] = 4,
@@ -758,10 +976,11 @@ fn the_lowest_broken_rule_is_given() {
         |b| line(b, DE0, 0).integer = 0,
         |b| item_of(b, DE0, 0).indicate = 2,
         |b| b.tables.addends[0].mask = 0,
+        |b| b.tables.pictures[UNUSED] = padded(b"Z*"),
     ];
     for (low, break_low) in breakers.iter().enumerate() {
         for break_high in &breakers[low..] {
-            let mut b = base();
+            let mut b = pictured();
             break_high(&mut b);
             break_low(&mut b);
             assert_eq!(usize::from(rule(&b)), low + 1);

@@ -17,7 +17,7 @@ fn bytes(name: &str) -> Vec<u8> {
     std::fs::read(example(name)).unwrap_or_else(|error| panic!("{name}: {error}"))
 }
 
-const EXAMPLES: [&str; 2] = ["whole_run", "day_sheet"];
+const EXAMPLES: [&str; 3] = ["whole_run", "day_sheet", "pictures"];
 
 #[test]
 fn sources_build_to_the_descriptions() {
@@ -59,6 +59,42 @@ fn the_whole_run_is_document_01s() {
     assert_eq!(bytes("whole_run.desc"), whole_run().bytes());
     assert_eq!(bytes("whole_run.rows"), WHOLE_RUN_ROWS.concat());
     assert_eq!(bytes("whole_run.sheet"), sheet_bytes(WHOLE_RUN_SHEET));
+}
+
+#[test]
+fn only_the_one_with_pictures_is_version_2() {
+    for name in EXAMPLES {
+        let desc = bytes(&format!("{name}.desc"));
+        let version = if name == "pictures" { 2 } else { 1 };
+        assert_eq!(desc[desc.len() - 2..], [version, 0], "{name}");
+    }
+}
+
+#[test]
+fn the_pictures_show_what_r_4_asks_for() {
+    let sheet = String::from_utf8(bytes("pictures.sheet")).unwrap();
+    let lines: Vec<&str> = sheet.lines().collect();
+    // The line on the sheet, a column from 1, and what stands there.
+    let rows = [
+        (0, 54, "  1"),          // the page
+        (2, 1, "004"),           // the line
+        (2, 32, "*****14.40  "), // a comma hidden by stars
+        (3, 26, "   "),          // a 0 under Z
+        (3, 32, "******0.00  "),
+        (4, 32, "**1,000.00  "), // a comma shown
+        (5, 26, " 1-"),
+        (5, 32, "**1,000.00CR"),
+        (5, 47, "  2.50-"),
+        (6, 26, "***"),           // 100 pieces are too many for two places
+        (7, 47, "*******"),       // a sum too wide
+        (15, 32, "************"), // 1,234,567.89
+        (16, 32, "999,999.99  "), // the widest that goes through
+        (16, 47, "   .01-"),
+        (19, 29, "*2,233,966.05  "),
+    ];
+    for (line, column, shown) in rows {
+        assert_eq!(&lines[line][8 + column..][..shown.len()], shown, "line {line}, column {column}");
+    }
 }
 
 #[test]

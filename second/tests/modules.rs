@@ -3,8 +3,10 @@
 use std::fs;
 use std::path::Path;
 
-const ORDER: [&str; 14] = [
+const ORDER: [&str; 16] = [
+    "layout",
     "tables",
+    "picture",
     "starts",
     "description",
     "record",

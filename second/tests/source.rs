@@ -111,6 +111,101 @@ fn errors_say_their_line() {
     }
 }
 
+/// A source of one detail with these items, on a line of 80.
+fn with_items(items: &[&str]) -> String {
+    let head = "page 10 heading 1 first 3 last 6 footing 8\nwidth 80\nrecord 12\n\
+                field amount number 0 8\nfield name text 8 4\ngroup DE\nline relative 1\n";
+    format!("{head}{}\n", items.join("\n"))
+}
+
+#[test]
+fn pictures_make_version_2() {
+    let text = with_items(&[
+        r#"item 1 12 field amount decimals 2 picture "ZZZ,ZZ9.99CR" indicate"#,
+        r#"item 14 12 field amount picture "ZZZ,ZZ9.99CR""#,
+        r#"item 30 3 page picture "ZZ9""#,
+        r#"item 34 3 line picture "***""#,
+        "item 40 4 field name",
+        r##"item 50 4 field amount picture "*,**" # a comment"##,
+    ]);
+    let built = build(&text).unwrap();
+    assert_eq!(built.version, 2);
+    let tables = check(&built.bytes()).unwrap();
+    let pictures: Vec<String> =
+        tables.pictures.iter().map(|picture| String::from_utf8(picture.to_vec()).unwrap()).collect();
+    assert_eq!(pictures, ["ZZZ,ZZ9.99CR", "ZZ9", "***", "*,**"].map(|text| format!("{text:<24}")));
+    let items: Vec<[u16; 7]> = tables.items.iter().map(Item::numbers).collect();
+    assert_eq!(
+        items,
+        [
+            [1, 12, FIELD, 0, 2, 1, 0],
+            [14, 12, FIELD, 0, 2, 0, 0],
+            [30, 3, PAGE_COUNTER, 0, 0, 0, 1],
+            [34, 3, LINE_COUNTER, 0, 0, 0, 2],
+            [40, 4, FIELD, 1, 0, 0, NO_PICTURE],
+            [50, 4, FIELD, 0, 0, 0, 3],
+        ]
+    );
+}
+
+#[test]
+fn a_picture_on_a_sum() {
+    let detail = with_items(&[]).replace("group DE", "control name\ngroup DE");
+    let footing = "group CF name\nline relative 1\nitem 1 7 sum s picture \"**9.99-\"\n";
+    let text = format!("{detail}{footing}sum s\nadd field amount\n");
+    let tables = check(&build(&text).unwrap().bytes()).unwrap();
+    assert_eq!(tables.items[0].numbers(), [1, 7, SUM, 0, 2, 0, 0]);
+}
+
+#[test]
+fn version_2_where_the_source_says_so() {
+    let plain = with_items(&["item 1 8 field amount"]);
+    let built = build(&plain).unwrap();
+    assert_eq!(built.version, 1);
+    let asked = build(&format!("version 2\n{plain}")).unwrap();
+    assert_eq!((asked.version, &asked.tables), (2, &built.tables));
+    assert_eq!(check(&asked.bytes()), check(&built.bytes()));
+    // At the end, or with a picture, it is the same.
+    assert_eq!(build(&format!("{plain}version 2\n")).unwrap(), asked);
+    let pictured = with_items(&[r#"item 1 1 page picture "9""#]);
+    assert_eq!(build(&format!("version 2\n{pictured}")), build(&pictured));
+}
+
+#[test]
+fn errors_of_pictures_say_their_line() {
+    let rows = [
+        (r#"item 1 4 page picture "ZZ9""#, "line 8: the item's width is 4, its picture's length 3"),
+        (r#"item 1 2 page picture "ZZ9""#, "line 8: the item's width is 2, its picture's length 3"),
+        (r#"item 1 4 page picture "ZZ9 ""#, "line 8: the item's width is 4, its picture's length 3"),
+        (r#"item 1 1 page picture """#, "line 8: the item's width is 1, its picture's length 0"),
+        (
+            r#"item 1 25 page picture "9999999999999999999999999""#,
+            "line 8: a picture has up to 24 characters, this one 25",
+        ),
+        ("item 1 3 page picture ZZ9", "line 8: a picture stands in quotes"),
+        ("item 1 3 page picture", "line 8: not understood: picture"),
+        (r#"item 1 3 field name picture "ZZ9""#, "line 8: a picture is for a number, and the field is text"),
+        (r#"item 1 3 page indicate picture "ZZ9""#, "line 8: not understood: indicate picture \"ZZ9"),
+        (r#"literal 1 "abc" picture "ZZ9""#, "line 8: not understood: literal 1 \"abc picture \"ZZ9"),
+        ("version 1", "line 8: a source asks for version 2, not 1"),
+        ("version 3", "line 8: a source asks for version 2, not 3"),
+        ("version", "line 8: not understood: version"),
+    ];
+    for (line, message) in rows {
+        assert_eq!(build(&with_items(&[line])).unwrap_err(), message, "{line}");
+    }
+    // What else a picture breaks is CHECK's to say.
+    for (line, rule) in [
+        (r#"item 1 3 page picture "Z*9""#, 9),
+        (r#"item 1 3 page decimals 0 picture "9.9""#, 9),
+        (r#"item 1 4 field amount decimals 1 picture "9.99""#, 9),
+        (r#"item 1 3 field amount decimals 1 picture "ZZ9""#, 9),
+        (r#"item 1 3 page picture "9.9""#, 7),
+    ] {
+        assert_eq!(check(&build(&with_items(&[line])).unwrap().bytes()), Err(rule), "{line}");
+    }
+}
+
 #[test]
 fn a_builder_sets_any_number() {
     let mut b = whole_run();

@@ -3,10 +3,10 @@
 
 use super::draft::{
     Block, Change, Count, Draft, Image, ItemPlace, Row, Section, AT_FD, AT_FT, AT_H, AT_LD, AT_P, AT_R,
-    AT_VERSION, AT_W, LIMITS, SECTIONS,
+    AT_VERSION, AT_W, SECTIONS,
 };
 use super::rng::Rng;
-use super::valid;
+use super::{rule_9, valid};
 use crate::description::{
     Addend, Item, ADD_COUNTER, ADD_FIELD, CF, CH, DE, FIELD, FINAL, LINE_ABSOLUTE, LINE_COUNTER,
     LINE_NEXT_PAGE, LINE_RELATIVE, LITERAL, NEXT_ABSOLUTE, NEXT_NONE, NEXT_PAGE, NEXT_RELATIVE, NUMBER,
@@ -29,14 +29,21 @@ use Way::{Bytes, Number, Shape};
 /// The faults of each rule, D1 first.
 const FAULTS: [&[(&str, Way)]; 8] = [
     &[
-        ("D1 version", Number(version)),
+        ("D1 version 0", Number(version_0)),
+        ("D1 version 3", Number(version_3)),
+        ("D1 version 65535", Number(version_65535)),
+        ("D1 version 256, 257 or 258", Number(version_of_two_bytes)),
+        ("D1 the other version", Number(other_version)),
         ("D1 section start", Number(section_start)),
+        ("D1 picture section start", Number(picture_start)),
         ("D1 section count", Number(section_count)),
         ("D1 count that wraps", Number(wrapping_count)),
         ("D1 fewer than 48 bytes", Bytes(cut_short)),
+        ("D1 version 2 in fewer than 52 bytes", Bytes(cut_short_of_52)),
         ("D1 byte too many", Bytes(byte_too_many)),
         ("D1 byte too few", Bytes(byte_too_few)),
         ("D1 limit passed", Shape(limit_passed)),
+        ("D1 65 pictures", Shape(pictures_65)),
     ],
     &[
         ("D2 page limits", Number(page_limits)),
@@ -112,11 +119,16 @@ const FAULTS: [&[(&str, Way)]; 8] = [
 
 /// Names of all faults.
 pub fn names() -> Vec<&'static str> {
-    FAULTS.iter().flat_map(|list| list.iter()).map(|(name, _)| *name).collect()
+    let mut names: Vec<&str> = FAULTS.iter().flat_map(|list| list.iter()).map(|(name, _)| *name).collect();
+    names.extend(rule_9::names());
+    names
 }
 
 /// A description whose lowest broken rule is `rule`, and the fault's name.
 pub fn description(rng: &mut Rng, rule: u8) -> (Vec<u8>, &'static str) {
+    if rule == 9 {
+        return rule_9::description(rng);
+    }
     let (name, way) = rng.pick(FAULTS[rule as usize - 1]);
     loop {
         let draft = if rng.chance(85) { valid::draft(rng) } else { valid::rich(rng) };
@@ -148,6 +160,10 @@ fn in_trailer(column: usize, value: u16) -> Option<Change> {
     change(Section::Trailer, 0, column, value)
 }
 
+fn in_limits(column: usize, value: u16) -> Option<Change> {
+    change(Section::Limits, 0, column, value)
+}
+
 /// A value one off, above or below; 65535 stands below 0.
 fn one_off(rng: &mut Rng, value: u16) -> u16 {
     if rng.chance(50) {
@@ -173,20 +189,48 @@ fn index(rng: &mut Rng, length: usize) -> Option<usize> {
 
 // ---- D1
 
-fn version(rng: &mut Rng, _: &Draft) -> Option<Change> {
-    in_trailer(AT_VERSION, rng.pick(&[0, 2, 256, 257, 65535]))
+fn version_0(_: &mut Rng, _: &Draft) -> Option<Change> {
+    in_limits(AT_VERSION, 0)
+}
+
+fn version_3(_: &mut Rng, _: &Draft) -> Option<Change> {
+    in_limits(AT_VERSION, 3)
+}
+
+fn version_65535(_: &mut Rng, _: &Draft) -> Option<Change> {
+    in_limits(AT_VERSION, 65535)
+}
+
+/// Their low byte is 0 or an accepted version.
+fn version_of_two_bytes(rng: &mut Rng, _: &Draft) -> Option<Change> {
+    in_limits(AT_VERSION, rng.pick(&[256, 257, 258]))
+}
+
+/// Each version reads the other's sections from the wrong places, so that one of them does not begin where it should:
+/// only a description without groups could pass, and none in order is so.
+fn other_version(_: &mut Rng, draft: &Draft) -> Option<Change> {
+    in_limits(AT_VERSION, 3 - draft.layout.version)
 }
 
 fn section_start(rng: &mut Rng, draft: &Draft) -> Option<Change> {
-    let section = rng.below(8);
+    let section = rng.below(draft.layout.section_count);
+    wrong_start(rng, draft, section)
+}
+
+fn picture_start(rng: &mut Rng, draft: &Draft) -> Option<Change> {
+    draft.layout.has_pictures().then(|| wrong_start(rng, draft, Section::Pictures as usize))?
+}
+
+/// One off, or another section's.
+fn wrong_start(rng: &mut Rng, draft: &Draft, section: usize) -> Option<Change> {
     let start = draft.image().number(Section::Trailer, 0, 2 * section);
-    let other = draft.image().number(Section::Trailer, 0, 2 * rng.below(8));
+    let other = draft.image().number(Section::Trailer, 0, 2 * rng.below(draft.layout.section_count));
     let value = if rng.chance(60) || other == start { one_off(rng, start) } else { other };
     in_trailer(2 * section, value)
 }
 
 fn section_count(rng: &mut Rng, draft: &Draft) -> Option<Change> {
-    let section = rng.pick(&SECTIONS);
+    let section = rng.pick(draft.sections());
     let count = draft.entry_count(section) as u16;
     let value = if rng.chance(80) { one_off(rng, count) } else { rng.pick(&[65535, 10000, count + 2]) };
     in_trailer(2 * section as usize + 1, value)
@@ -194,7 +238,9 @@ fn section_count(rng: &mut Rng, draft: &Draft) -> Option<Change> {
 
 /// A count so large that its bytes come out right again in 16 bits.
 fn wrapping_count(rng: &mut Rng, draft: &Draft) -> Option<Change> {
-    let section = rng.pick(&SECTIONS[..7]);
+    let of_numbers: Vec<Section> =
+        draft.sections().iter().copied().filter(|&section| section != Section::Literals).collect();
+    let section = rng.pick(&of_numbers);
     let count = draft.entry_count(section) as u16;
     in_trailer(2 * section as usize + 1, count + 32768)
 }
@@ -204,6 +250,18 @@ fn cut_short(rng: &mut Rng, _: &Draft, image: Image) -> Option<Vec<u8>> {
     let length = rng.pick(&[0, 1, 46, 47, any]);
     let from = if rng.chance(50) { 0 } else { image.bytes.len() - length };
     Some(image.bytes[from..from + length].to_vec())
+}
+
+/// The end of a version 2 file, or a bare trailer that lacks bytes at its front.
+fn cut_short_of_52(rng: &mut Rng, draft: &Draft, image: Image) -> Option<Vec<u8>> {
+    let any = rng.between(2, 51);
+    let length = rng.pick(&[51, 51, 50, 48, any]);
+    let mut bytes = vec![0; length];
+    bytes[length - 2] = 2;
+    if rng.chance(50) {
+        bytes.copy_from_slice(&image.bytes[image.bytes.len() - length..]);
+    }
+    draft.layout.has_pictures().then_some(bytes)
 }
 
 fn byte_too_many(rng: &mut Rng, _: &Draft, mut image: Image) -> Option<Vec<u8>> {
@@ -225,7 +283,11 @@ fn byte_too_few(rng: &mut Rng, _: &Draft, mut image: Image) -> Option<Vec<u8>> {
 /// The draft is made anew: one entry more than a section may have, else in order where that can be.
 fn limit_passed(rng: &mut Rng, _: Draft) -> Option<Draft> {
     let section = rng.pick(&SECTIONS);
-    Some(valid::filled(rng, section, LIMITS[section as usize] + 1))
+    Some(valid::filled(rng, section, 1))
+}
+
+fn pictures_65(rng: &mut Rng, _: Draft) -> Option<Draft> {
+    Some(valid::filled(rng, Section::Pictures, 1))
 }
 
 // ---- D2
@@ -247,19 +309,20 @@ fn page_limits(rng: &mut Rng, draft: &Draft) -> Option<Change> {
         (AT_H, 65535),
         (AT_FT, 0),
     ]);
-    in_trailer(column, value)
+    in_limits(column, value)
 }
 
 fn widths(rng: &mut Rng, _: &Draft) -> Option<Change> {
     let (column, value) =
         rng.pick(&[(AT_W, 0), (AT_W, 133), (AT_W, 65535), (AT_R, 0), (AT_R, 257), (AT_R, 65535)]);
-    in_trailer(column, value)
+    in_limits(column, value)
 }
 
-/// 48 bytes, all zero but the version.
-fn bare_trailer(_: &mut Rng, _: &Draft, _: Image) -> Option<Vec<u8>> {
-    let mut bytes = vec![0; 48];
-    bytes[46] = 1;
+/// A trailer alone, all zero but the version.
+fn bare_trailer(_: &mut Rng, draft: &Draft, _: Image) -> Option<Vec<u8>> {
+    let mut bytes = vec![0; draft.layout.trailer_bytes()];
+    let version = bytes.len() - 2;
+    bytes[version] = draft.layout.version as u8;
     Some(bytes)
 }
 
@@ -292,7 +355,7 @@ fn field_width(rng: &mut Rng, draft: &Draft) -> Option<Change> {
 
 fn record_cut(_: &mut Rng, draft: &Draft) -> Option<Change> {
     let end = draft.fields.iter().map(|field| field.offset + field.width).max()?;
-    (end > 1).then(|| in_trailer(AT_R, end - 1))?
+    (end > 1).then(|| in_limits(AT_R, end - 1))?
 }
 
 // ---- D4
@@ -424,7 +487,8 @@ fn nine_details(rng: &mut Rng, mut draft: Draft) -> Option<Draft> {
 
 /// The trailer alone, in order but for the detail it wants.
 fn nothing_at_all(_: &mut Rng, draft: Draft) -> Option<Draft> {
-    Some(Draft { page: draft.page, width: draft.width, record: draft.record, ..Draft::default() })
+    let Draft { layout, page, width, record, .. } = draft;
+    Some(Draft { layout, page, width, record, ..Draft::default() })
 }
 
 // ---- D6
@@ -472,7 +536,8 @@ fn items_share(rng: &mut Rng, draft: &Draft) -> Option<Change> {
 }
 
 fn items_left(_: &mut Rng, draft: &Draft, mut image: Image) -> Option<Vec<u8>> {
-    image.append(Section::Items, &[1, 1, PAGE_COUNTER, 0, 0, 0]);
+    let item = Item { column: 1, width: 1, source: PAGE_COUNTER, ..Item::default() };
+    image.append(Section::Items, &item.numbers()[..draft.layout.item_numbers]);
     (draft.item_count() < 512).then_some(image.bytes)
 }
 
@@ -536,11 +601,11 @@ fn page_limit_moved(rng: &mut Rng, draft: &Draft) -> Option<Change> {
         CH | DE => {
             let start = if first.kind == LINE_RELATIVE { page.fd } else { first.integer };
             let last = start + group.span();
-            (last > page.fd).then(|| in_trailer(AT_LD, last - 1))?
+            (last > page.fd).then(|| in_limits(AT_LD, last - 1))?
         }
-        RH if absolute => (first.integer < page.fd).then(|| in_trailer(AT_H, first.integer + 1))?,
-        PF => in_trailer(AT_P, first.integer + group.span() - 1),
-        RF if absolute => in_trailer(AT_P, first.integer + group.span() - 1),
+        RH if absolute => (first.integer < page.fd).then(|| in_limits(AT_H, first.integer + 1))?,
+        PF => in_limits(AT_P, first.integer + group.span() - 1),
+        RF if absolute => in_limits(AT_P, first.integer + group.span() - 1),
         _ => None,
     }
 }

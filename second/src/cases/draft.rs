@@ -1,15 +1,22 @@
 //! A description under work: groups hold their lines, lines their items, counters their addends.
 //! `image` lays the sections out; `read` takes an accepted description apart again.
 
-use crate::description::{Addend, Field, Item, CF, CH, DE, FINAL, LINE_RELATIVE, PF, PH, RF, RH};
+use crate::description::{
+    Addend, Field, Item, Picture, CF, CH, DE, FINAL, LINE_RELATIVE, NO_PICTURE, PF, PH, RF, RH,
+};
+use crate::layout::{Layout, LIMIT_NUMBERS, PICTURE_BYTES};
 
 #[derive(Clone, Debug, Default, PartialEq, Eq)]
 pub struct Draft {
+    /// The version's.
+    pub layout: Layout,
     pub fields: Vec<Field>,
     pub controls: Vec<u16>,
     pub groups: Vec<Block>,
     pub counters: Vec<Count>,
     pub literals: Vec<u8>,
+    /// None in version 1.
+    pub pictures: Vec<Picture>,
     pub page: Page,
     pub width: u16,
     pub record: u16,
@@ -50,7 +57,8 @@ pub struct Page {
     pub ft: u16,
 }
 
-/// The eight sections in file order, and the trailer as a ninth of one entry.
+/// The sections in file order; the trailer, and the trailer's last numbers, as sections of one entry. In version 1 the
+/// pictures are a section of no bytes that the trailer knows nothing of.
 #[derive(Clone, Copy, Debug, PartialEq, Eq)]
 pub enum Section {
     Fields,
@@ -61,10 +69,13 @@ pub enum Section {
     Counters,
     Addends,
     Literals,
+    Pictures,
     Trailer,
+    Limits,
 }
 
-pub const SECTIONS: [Section; 8] = [
+/// The sections of the last version.
+pub const SECTIONS: [Section; 9] = [
     Section::Fields,
     Section::Controls,
     Section::Groups,
@@ -73,23 +84,27 @@ pub const SECTIONS: [Section; 8] = [
     Section::Counters,
     Section::Addends,
     Section::Literals,
+    Section::Pictures,
 ];
 
-/// Bytes of one entry, by section; the trailer's 48 last.
-pub const ENTRY_BYTES: [usize; 9] = [6, 2, 12, 8, 12, 8, 6, 1, 48];
+/// Places in `Section::Limits`.
+pub const AT_P: usize = 0;
+pub const AT_H: usize = 1;
+pub const AT_FD: usize = 2;
+pub const AT_LD: usize = 3;
+pub const AT_FT: usize = 4;
+pub const AT_W: usize = 5;
+pub const AT_R: usize = 6;
+pub const AT_VERSION: usize = 7;
 
-/// The most entries a section may have (D1).
-pub const LIMITS: [usize; 8] = [32, 8, 32, 128, 512, 32, 128, 4096];
-
-/// Places of the trailer's last eight numbers.
-pub const AT_P: usize = 16;
-pub const AT_H: usize = 17;
-pub const AT_FD: usize = 18;
-pub const AT_LD: usize = 19;
-pub const AT_FT: usize = 20;
-pub const AT_W: usize = 21;
-pub const AT_R: usize = 22;
-pub const AT_VERSION: usize = 23;
+/// Bytes of one entry.
+pub fn entry_bytes(layout: Layout, section: Section) -> usize {
+    match section {
+        Section::Trailer => layout.trailer_bytes(),
+        Section::Limits => 2 * LIMIT_NUMBERS,
+        _ => layout.sections()[section as usize].0,
+    }
+}
 
 impl Row {
     pub fn new(kind: u16, integer: u16) -> Row {
@@ -135,6 +150,37 @@ impl Block {
 }
 
 impl Draft {
+    /// The sections that its version has.
+    pub fn sections(&self) -> &'static [Section] {
+        &SECTIONS[..self.layout.section_count]
+    }
+
+    /// The most entries a section may have (D1); 0 where its version has no such section.
+    pub fn limit(&self, section: Section) -> usize {
+        self.layout.sections().get(section as usize).map_or(0, |&(_, most)| most)
+    }
+
+    /// All items, in file order.
+    pub fn items_mut(&mut self) -> impl Iterator<Item = &mut Item> {
+        self.groups.iter_mut().flat_map(|group| &mut group.lines).flat_map(|line| &mut line.items)
+    }
+
+    pub fn item_mut(&mut self, place: ItemPlace) -> &mut Item {
+        &mut self.groups[place.group].lines[place.line].items[place.nth]
+    }
+
+    /// The picture of an item.
+    pub fn picture_of(&self, item: &Item) -> Option<&Picture> {
+        self.pictures.get(item.picture as usize)
+    }
+
+    /// Puts a picture at this index; items keep theirs.
+    pub fn insert_picture(&mut self, at: usize, picture: Picture) {
+        self.pictures.insert(at, picture);
+        let moved = |item: &&mut Item| item.picture != NO_PICTURE && item.picture as usize >= at;
+        self.items_mut().filter(moved).for_each(|item| item.picture += 1);
+    }
+
     pub fn details(&self) -> usize {
         self.groups.iter().filter(|group| group.kind == DE).count()
     }
@@ -179,7 +225,8 @@ impl Draft {
             Section::Counters => self.counters.len(),
             Section::Addends => self.addend_count(),
             Section::Literals => self.literals.len(),
-            Section::Trailer => 1,
+            Section::Pictures => self.pictures.len(),
+            Section::Trailer | Section::Limits => 1,
         }
     }
 
@@ -263,7 +310,9 @@ pub struct ItemPlace {
 #[derive(Clone, Debug)]
 pub struct Image {
     pub bytes: Vec<u8>,
-    starts: [usize; 9],
+    layout: Layout,
+    /// By section.
+    starts: [usize; 11],
 }
 
 /// One number of the file to be replaced.
@@ -278,7 +327,7 @@ pub struct Change {
 impl Image {
     /// Where a number stands in the file.
     fn place(&self, section: Section, entry: usize, column: usize) -> usize {
-        self.starts[section as usize] + entry * ENTRY_BYTES[section as usize] + 2 * column
+        self.starts[section as usize] + entry * entry_bytes(self.layout, section) + 2 * column
     }
 
     pub fn number(&self, section: Section, entry: usize, column: usize) -> u16 {
@@ -300,6 +349,11 @@ impl Image {
         self.starts[Section::Literals as usize]
     }
 
+    /// Byte place of a picture.
+    pub fn picture(&self, index: usize) -> usize {
+        self.starts[Section::Pictures as usize] + index * PICTURE_BYTES
+    }
+
     /// Byte place of the trailer.
     pub fn trailer(&self) -> usize {
         self.starts[Section::Trailer as usize]
@@ -312,7 +366,7 @@ impl Image {
         let entry: Vec<u8> = numbers.iter().flat_map(|number| number.to_le_bytes()).collect();
         self.bytes.splice(end..end, entry.iter().copied());
         self.starts[place + 1..].iter_mut().for_each(|start| *start += entry.len());
-        for later in place + 1..Section::Trailer as usize {
+        for later in place + 1..self.layout.section_count {
             self.change_trailer(2 * later, self.starts[later] as u16);
         }
         let column = 2 * place + 1;
@@ -321,7 +375,7 @@ impl Image {
 
     /// Swaps two neighbouring entries.
     pub fn swap(&mut self, section: Section, entry: usize) {
-        let size = ENTRY_BYTES[section as usize];
+        let size = entry_bytes(self.layout, section);
         let at = self.place(section, entry, 0);
         self.bytes[at..at + 2 * size].rotate_left(size);
     }
@@ -330,7 +384,7 @@ impl Image {
 impl Draft {
     pub fn image(&self) -> Image {
         let mut bytes = Vec::new();
-        let mut starts = [0; 9];
+        let mut starts = [0; 11];
         let sections = [
             self.field_numbers(),
             self.controls.clone(),
@@ -347,8 +401,11 @@ impl Draft {
         starts[7] = bytes.len();
         bytes.extend_from_slice(&self.literals);
         starts[8] = bytes.len();
+        bytes.extend(self.pictures.iter().flatten());
+        starts[9] = bytes.len();
         push_numbers(&mut bytes, &self.trailer_numbers(&starts));
-        Image { bytes, starts }
+        starts[10] = bytes.len() - 2 * LIMIT_NUMBERS;
+        Image { bytes, layout: self.layout, starts }
     }
 
     pub fn bytes(&self) -> Vec<u8> {
@@ -383,7 +440,8 @@ impl Draft {
 
     fn item_numbers(&self) -> Vec<u16> {
         let lines = self.groups.iter().flat_map(|group| &group.lines);
-        lines.flat_map(|line| &line.items).flat_map(|item| item_row(*item)).collect()
+        let items = lines.flat_map(|line| &line.items);
+        items.flat_map(|item| item.numbers().into_iter().take(self.layout.item_numbers)).collect()
     }
 
     fn counter_numbers(&self) -> Vec<u16> {
@@ -402,20 +460,17 @@ impl Draft {
         addends.flat_map(|a| [a.kind, a.index, a.mask]).collect()
     }
 
-    fn trailer_numbers(&self, starts: &[usize; 9]) -> Vec<u16> {
+    fn trailer_numbers(&self, starts: &[usize]) -> Vec<u16> {
         let mut numbers = Vec::new();
-        for section in SECTIONS {
+        for &section in self.sections() {
             numbers.push(starts[section as usize] as u16);
             numbers.push(self.entry_count(section) as u16);
         }
         let page = &self.page;
-        numbers.extend([page.p, page.h, page.fd, page.ld, page.ft, self.width, self.record, 1]);
+        numbers.extend([page.p, page.h, page.fd, page.ld, page.ft, self.width, self.record]);
+        numbers.push(self.layout.version);
         numbers
     }
-}
-
-fn item_row(item: Item) -> [u16; 6] {
-    [item.column, item.width, item.source, item.index, item.decimals, item.indicate]
 }
 
 fn push_numbers(bytes: &mut Vec<u8>, numbers: &[u16]) {
@@ -428,31 +483,37 @@ impl Draft {
         let numbers = |range: std::ops::Range<usize>| -> Vec<u16> {
             bytes[range].chunks_exact(2).map(|pair| u16::from_le_bytes([pair[0], pair[1]])).collect()
         };
-        let trailer = numbers(bytes.len() - 48..bytes.len());
-        let section = |section: Section| -> Vec<u16> {
+        let version = numbers(bytes.len() - 2..bytes.len())[0];
+        let layout = Layout::of(version).expect("an accepted description");
+        let trailer = numbers(bytes.len() - layout.trailer_bytes()..bytes.len());
+        let limits = &trailer[2 * layout.section_count..];
+        let range = |section: Section| {
             let start = trailer[2 * section as usize] as usize;
             let count = trailer[2 * section as usize + 1] as usize;
-            numbers(start..start + count * ENTRY_BYTES[section as usize])
+            start..start + count * entry_bytes(layout, section)
         };
-        let items = read_items(&section(Section::Items));
+        let section = |section: Section| numbers(range(section));
+        let pictures = if layout.has_pictures() { range(Section::Pictures) } else { 0..0 };
+        let items = read_items(&section(Section::Items), layout);
         let lines = read_lines(&section(Section::Lines), &items);
         let addends = read_addends(&section(Section::Addends));
-        let literals = trailer[14] as usize..trailer[14] as usize + trailer[15] as usize;
         Draft {
+            layout,
             fields: read_fields(&section(Section::Fields)),
             controls: section(Section::Controls),
             groups: read_groups(&section(Section::Groups), &lines),
             counters: read_counters(&section(Section::Counters), &addends),
-            literals: bytes[literals].to_vec(),
+            literals: bytes[range(Section::Literals)].to_vec(),
+            pictures: bytes[pictures].chunks_exact(PICTURE_BYTES).map(read_picture).collect(),
             page: Page {
-                p: trailer[AT_P],
-                h: trailer[AT_H],
-                fd: trailer[AT_FD],
-                ld: trailer[AT_LD],
-                ft: trailer[AT_FT],
+                p: limits[AT_P],
+                h: limits[AT_H],
+                fd: limits[AT_FD],
+                ld: limits[AT_LD],
+                ft: limits[AT_FT],
             },
-            width: trailer[AT_W],
-            record: trailer[AT_R],
+            width: limits[AT_W],
+            record: limits[AT_R],
         }
     }
 }
@@ -477,7 +538,7 @@ fn read_lines(numbers: &[u16], items: &[Item]) -> Vec<Row> {
     numbers.chunks_exact(4).map(read).collect()
 }
 
-fn read_items(numbers: &[u16]) -> Vec<Item> {
+fn read_items(numbers: &[u16], layout: Layout) -> Vec<Item> {
     let read = |n: &[u16]| Item {
         column: n[0],
         width: n[1],
@@ -485,8 +546,13 @@ fn read_items(numbers: &[u16]) -> Vec<Item> {
         index: n[3],
         decimals: n[4],
         indicate: n[5],
+        picture: n.get(6).copied().unwrap_or(NO_PICTURE),
     };
-    numbers.chunks_exact(6).map(read).collect()
+    numbers.chunks_exact(layout.item_numbers).map(read).collect()
+}
+
+fn read_picture(bytes: &[u8]) -> Picture {
+    std::array::from_fn(|at| bytes[at])
 }
 
 fn read_counters(numbers: &[u16], addends: &[Addend]) -> Vec<Count> {

@@ -1,12 +1,13 @@
 //! What descriptions and calls have that should be met: the names, and who has them.
 
-use super::draft::{Block, Draft, Section, LIMITS, SECTIONS};
+use super::draft::{Block, Draft, Section};
 use super::sequence::{Call, Step, MANNERS};
+use super::shown::{self, Shown};
 use super::states::DAMAGES;
-use super::{broken, keep, play, rows, sample, walk};
+use super::{broken, keep, play, rows, rule_9, sample, walk};
 use crate::description::{
-    ADD_COUNTER, ADD_FIELD, CF, CH, DE, FIELD, FINAL, LINE_ABSOLUTE, LINE_NEXT_PAGE, LINE_RELATIVE, NUMBER,
-    PF, PH, RF, RH, SUM, TEXT,
+    ADD_COUNTER, ADD_FIELD, CF, CH, DE, FIELD, FINAL, LINE_ABSOLUTE, LINE_COUNTER, LINE_NEXT_PAGE,
+    LINE_RELATIVE, NUMBER, PAGE_COUNTER, PF, PH, RF, RH, SUM, TEXT,
 };
 use crate::report::Answer;
 use crate::state::STARTED;
@@ -16,8 +17,8 @@ const FIRST_LINES: [&str; 3] = ["absolute", "next page", "relative"];
 const NEXT_GROUPS: [&str; 4] = ["none", "absolute", "relative", "next page"];
 const SOURCES: [&str; 5] = ["literal", "field", "page counter", "line counter", "sum"];
 const LANDINGS: [&str; 4] = ["same page", "next page", "next page, saved line", "two pages"];
-const SECTION_NAMES: [&str; 8] =
-    ["fields", "controls", "groups", "lines", "items", "counters", "addends", "literals"];
+const SECTION_NAMES: [&str; 9] =
+    ["fields", "controls", "groups", "lines", "items", "counters", "addends", "literals", "pictures"];
 
 /// Features that stand alone.
 const SINGLE: [&str; 55] = [
@@ -78,12 +79,75 @@ const SINGLE: [&str; 55] = [
     "TERMINATE leaves a flag clear",
 ];
 
+/// What should be met of numbers printed through pictures.
+const SHOWN: [&str; 27] = [
+    "picture: Z hides a zero",
+    "picture: * hides a zero",
+    "picture: Z hides a comma",
+    "picture: * hides a comma",
+    "picture: comma shown, fill Z",
+    "picture: comma shown, fill *",
+    "picture: comma shown, 9s alone",
+    "picture: lone 0 under Z",
+    "picture: lone 0 under *",
+    "picture: zero under 9s",
+    "picture: CR shown",
+    "picture: CR blank",
+    "picture: - shown",
+    "picture: - blank",
+    "picture: -0 is not negative",
+    "picture: negative without a sign",
+    "picture: too wide",
+    "picture: too wide by one digit",
+    "picture: as wide as it goes",
+    "picture: too wide and negative",
+    "picture: sum refused",
+    "picture: sum shown",
+    "picture: no place before the point",
+    "picture: 24 characters",
+    "picture: more than 18 places",
+    "picture: page counter",
+    "picture: line counter",
+];
+
+/// Often enough, in a run of the usual amounts, for what R-4 brought.
+const OFTEN: u64 = 100;
+
+/// Faults of D1 that R-4 brought or moved.
+const FAULTS_OF_VERSIONS: [&str; 7] = [
+    "D1 version 0",
+    "D1 version 3",
+    "D1 version 65535",
+    "D1 the other version",
+    "D1 picture section start",
+    "D1 version 2 in fewer than 52 bytes",
+    "D1 65 pictures",
+];
+
+/// How often each name should be met: the names that should be met more than once.
+pub fn wanted_often() -> Vec<(String, u64)> {
+    let faults = rule_9::names().into_iter().chain(FAULTS_OF_VERSIONS);
+    let mut names: Vec<String> = faults.map(|name| format!("description: {name}")).collect();
+    names.extend(SHOWN.map(String::from));
+    names.extend((0..=4).map(decimals_name));
+    names.extend((1..=2).map(version_name));
+    names.into_iter().map(|name| (name, OFTEN)).collect()
+}
+
+fn decimals_name(decimals: u16) -> String {
+    format!("picture: {decimals} decimals")
+}
+
+fn version_name(version: u16) -> String {
+    format!("version {version}")
+}
+
 /// Names of all that should be met.
 pub fn wanted() -> Vec<String> {
     let mut names: Vec<String> = SINGLE.map(String::from).to_vec();
     names.extend(broken::names().iter().chain(&sample::NAMES).map(|name| format!("description: {name}")));
     names.extend(MANNERS.iter().chain(&DAMAGES).map(|name| format!("step: {name}")));
-    names.extend((1..=8).map(|rule| format!("refusal 1 with {rule}")));
+    names.extend((1..=9).map(|rule| format!("refusal 1 with {rule}")));
     names.extend((0..=10).chain([31]).map(|field| format!("refusal 6 with {field}")));
     names.extend((0..8).map(|level| format!("break at level {level}")));
     names.extend(SECTION_NAMES.map(|section| format!("full section: {section}")));
@@ -92,6 +156,7 @@ pub fn wanted() -> Vec<String> {
     names.extend((0..=8).map(|controls| format!("controls: {controls}")));
     names.extend((0..7).flat_map(wanted_of));
     names.extend([CF, CH, DE].map(turned_name));
+    names.extend(wanted_often().into_iter().map(|(name, _)| name));
     names
 }
 
@@ -153,6 +218,7 @@ fn holding(list: &[(bool, &str)]) -> Vec<String> {
 /// Features of an accepted description; one that is there twice is named twice.
 pub fn of_description(draft: &Draft) -> Vec<String> {
     let mut names = section_features(draft);
+    names.push(version_name(draft.layout.version));
     names.extend(page_features(draft));
     names.extend(field_features(draft));
     names.extend(draft.groups.iter().flat_map(|group| group_features(draft, group)));
@@ -164,9 +230,9 @@ pub fn of_description(draft: &Draft) -> Vec<String> {
 
 fn section_features(draft: &Draft) -> Vec<String> {
     let mut names = holding(&[(draft.literals.len() % 2 == 1, "odd number of literals")]);
-    for section in SECTIONS {
+    for &section in draft.sections() {
         // Groups cannot pass 28: four, two a level, eight details.
-        let full = if section == Section::Groups { 28 } else { LIMITS[section as usize] };
+        let full = if section == Section::Groups { 28 } else { draft.limit(section) };
         let name = SECTION_NAMES[section as usize];
         match draft.entry_count(section) {
             0 => names.push(format!("empty section: {name}")),
@@ -304,6 +370,7 @@ pub fn of_call(draft: &Draft, step: &Step, answer: &Answer) -> Vec<String> {
         (saved != 0 && saved != step.state.saved, "saved line set"),
     ]));
     names.extend(landing(draft, step, answer));
+    names.extend(picture_features(draft, step));
     names.extend(match walk::detail(draft, step) {
         Some(detail) => indicate_features(draft, step, answer, detail),
         None => end_features(draft, step, answer),
@@ -362,6 +429,75 @@ fn turned(draft: &Draft, step: &Step, answer: &Answer) -> Vec<u16> {
     let walked =
         keep::places(draft, &output[..own.count]).and_then(|places| walk::walk(draft, step, &places));
     walked.map_or(Vec::new(), |walked| walked.turned)
+}
+
+/// What an accepted call's numbers show through their pictures, each name once for each number.
+fn picture_features(draft: &Draft, step: &Step) -> Vec<String> {
+    if draft.pictures.is_empty() {
+        return Vec::new();
+    }
+    let (own, output) = play(&draft.bytes(), step);
+    let printed = &output[..own.count];
+    let walked = keep::places(draft, printed).and_then(|places| walk::walk(draft, step, &places));
+    let rows = walked.map_or(Vec::new(), |walked| walked.rows);
+    let shown = shown::all(draft, step, own.state.page, &rows, printed);
+    shown.iter().flat_map(|shown| shown_features(shown).into_iter().chain(value_features(shown))).collect()
+}
+
+/// What stands there, whatever the number.
+fn shown_features(shown: &Shown) -> Vec<String> {
+    let (fill, source) = (shown.fill(), shown.item.source);
+    let mut names = holding(&[
+        (shown.picture[0] == b'.', "picture: no place before the point"),
+        (shown.picture.len() == 24, "picture: 24 characters"),
+        (shown.places() > 18, "picture: more than 18 places"),
+        (source == PAGE_COUNTER, "picture: page counter"),
+        (source == LINE_COUNTER, "picture: line counter"),
+    ]);
+    names.push(decimals_name(shown.item.decimals));
+    if shown.is_starred() {
+        let hides_all = shown.picture.iter().all(|byte| b"*,".contains(byte));
+        names.extend(holding(&[(source == SUM && !hides_all, "picture: sum refused")]));
+        return names;
+    }
+    let any = |place: u8, byte: u8| shown.characters().any(|pair| pair == (byte, place));
+    let sign = &shown.part[shown.part.len() - shown.sign().len()..];
+    let sign_shows = sign == shown.sign().as_bytes();
+    names.extend(holding(&[
+        (any(b'Z', b' '), "picture: Z hides a zero"),
+        (any(b'*', b'*'), "picture: * hides a zero"),
+        (any(b',', b' '), "picture: Z hides a comma"),
+        (any(b',', b'*'), "picture: * hides a comma"),
+        (any(b',', b',') && fill == b'Z', "picture: comma shown, fill Z"),
+        (any(b',', b',') && fill == b'*', "picture: comma shown, fill *"),
+        (any(b',', b',') && fill == b'9', "picture: comma shown, 9s alone"),
+        (shown.sign() == "CR" && sign_shows, "picture: CR shown"),
+        (shown.sign() == "CR" && !sign_shows, "picture: CR blank"),
+        (shown.sign() == "-" && sign_shows, "picture: - shown"),
+        (shown.sign() == "-" && !sign_shows, "picture: - blank"),
+        (source == SUM, "picture: sum shown"),
+    ]));
+    names
+}
+
+/// What is met of a known number.
+fn value_features(shown: &Shown) -> Vec<String> {
+    let Some(value) = shown.value else { return Vec::new() };
+    let digits = value.unsigned_abs().checked_ilog10().map_or(0, |log| log + 1);
+    let has_9 = shown.picture.contains(&b'9');
+    let is_wide = shown.is_too_wide(value);
+    let is_signed = !shown.sign().is_empty();
+    holding(&[
+        (value == 0 && !has_9 && shown.fill() == b'Z', "picture: lone 0 under Z"),
+        (value == 0 && !has_9 && shown.fill() == b'*', "picture: lone 0 under *"),
+        (value == 0 && has_9, "picture: zero under 9s"),
+        (value == 0 && shown.has_minus && is_signed, "picture: -0 is not negative"),
+        (value < 0 && !is_signed && !is_wide, "picture: negative without a sign"),
+        (is_wide, "picture: too wide"),
+        (digits == shown.places() + 1, "picture: too wide by one digit"),
+        (digits == shown.places(), "picture: as wide as it goes"),
+        (is_wide && value < 0 && is_signed, "picture: too wide and negative"),
+    ])
 }
 
 /// Features of a later row.

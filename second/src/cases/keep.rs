@@ -2,8 +2,9 @@
 
 use super::draft::Draft;
 use super::sequence::{line_bytes, most_lines, pattern, Call, Expect, Step};
+use super::shown;
 use super::walk::{self, walk, Place};
-use crate::description::{Item, FIELD, LITERAL, NUMBER};
+use crate::description::{Item, FIELD, LITERAL, NO_PICTURE, NUMBER};
 use crate::report::Answer;
 use crate::state::{State, IDLE, RUNNING, STARTED};
 
@@ -110,7 +111,11 @@ fn printed(draft: &Draft, step: &Step, answer: &Answer, output: &[u8]) -> Result
         last = place;
     }
     if !matches!(step.call, Call::Initiate) {
-        let page = walk(draft, step, &places)?.page;
+        let walked = walk(draft, step, &places)?;
+        for shown in shown::all(draft, step, answer.state.page, &walked.rows, output) {
+            must(shown.is_right(), &format!("not what its picture asks for: {shown:?}"))?;
+        }
+        let page = walked.page;
         must(answer.state.page == page, "the state's page is not the last one printed")?;
         must(
             answer.state.line >= last.1 || page > last.0,
@@ -120,8 +125,8 @@ fn printed(draft: &Draft, step: &Step, answer: &Answer, output: &[u8]) -> Result
     Ok(())
 }
 
-/// Indicated items are blank where the flag is clear; where it is set, those that show a number are not. The detail's
-/// lines are the last.
+/// Indicated items are blank where the flag is clear; where it is set, those that show a number without a picture are not.
+/// The detail's lines are the last.
 fn indicated(draft: &Draft, step: &Step, answer: &Answer, output: &[u8]) -> Result<(), String> {
     let (Call::Generate { d, .. }, Some(detail)) = (&step.call, walk::detail(draft, step)) else {
         return Ok(());
@@ -133,7 +138,8 @@ fn indicated(draft: &Draft, step: &Step, answer: &Answer, output: &[u8]) -> Resu
             let part = &line[8 + item.column as usize..][..item.width as usize];
             let blank = part.iter().all(|&byte| byte == b' ');
             must(shows || blank, "an indicated item shows, its flag clear")?;
-            must(!shows || !blank || !shows_number(draft, item), "an indicated item is blank, its flag set")?;
+            let never_blank = shows_number(draft, item) && item.picture == NO_PICTURE;
+            must(!shows || !blank || !never_blank, "an indicated item is blank, its flag set")?;
         }
     }
     Ok(())

@@ -77,10 +77,16 @@ fn set_number(rng: &mut Rng, field: Field, row: &mut [u8]) {
     let last = bytes.len() - 1;
     bytes.fill(b'0');
     bytes[0] = rng.pick(b"++-");
-    match rng.below(10) {
+    // The first of the digits that are not 0 only.
+    let first = rng.between(1, last);
+    match rng.below(12) {
         0..=1 => {}
-        2..=6 => bytes[last] = b'0' + rng.below(10) as u8,
-        7 => bytes[1..].fill(b'9'),
+        2..=5 => bytes[last] = b'0' + rng.below(10) as u8,
+        6 => bytes[1..].fill(b'9'),
+        // Where a picture becomes too narrow: 10^k - 1, 10^k and numbers like them.
+        7 => bytes[first..].fill(b'9'),
+        8 => bytes[first] = b'1',
+        9 => bytes[first..].iter_mut().for_each(|byte| *byte = b'0' + rng.below(10) as u8),
         _ => bytes[1..].iter_mut().for_each(|byte| *byte = b'0' + rng.below(10) as u8),
     }
 }
@@ -161,7 +167,8 @@ pub fn break_level(draft: &Draft, kept: &[u8], row: &[u8]) -> Option<usize> {
     })
 }
 
-fn value(bytes: &[u8]) -> i64 {
+/// The value of a number field's bytes.
+pub fn value(bytes: &[u8]) -> i64 {
     let size = bytes[1..].iter().fold(0, |size, digit| size * 10 + i64::from(digit - b'0'));
     if bytes[0] == b'-' {
         -size

@@ -1,9 +1,10 @@
 //! Descriptions for CHECK: half of them in order, the others broken in every rule.
 
 use super::broken;
-use super::draft::{Change, Draft, Image, Section, LIMITS, SECTIONS};
+use super::draft::{entry_bytes, Change, Draft, Image, Section, SECTIONS};
 use super::rng::Rng;
 use super::valid;
+use crate::layout::{Layout, LIMIT_NUMBERS};
 
 /// A description with what is known of it.
 #[derive(Clone, Debug)]
@@ -25,13 +26,16 @@ pub const NAMES: [&str; 6] = [
     "random bytes",
 ];
 
+/// The rules to break. D1 and rule 9 have the most clauses, and each is wanted often.
+const RULES: [u8; 18] = [1, 1, 1, 2, 3, 4, 5, 6, 7, 8, 9, 9, 9, 9, 9, 9, 9, 9];
+
 pub fn sample(rng: &mut Rng) -> Sample {
     match rng.below(100) {
-        0..=40 => Sample { bytes: valid::draft(rng).bytes(), rule: Some(0), name: NAMES[0] },
-        41..=45 => at_a_limit(rng),
-        46..=53 => blind(rng),
-        54..=95 => {
-            let rule = rng.between(1, 8) as u8;
+        0..=35 => Sample { bytes: valid::draft(rng).bytes(), rule: Some(0), name: NAMES[0] },
+        36..=40 => at_a_limit(rng),
+        41..=47 => blind(rng),
+        48..=95 => {
+            let rule = rng.pick(&RULES);
             let (bytes, name) = broken::description(rng, rule);
             Sample { bytes, rule: Some(rule), name }
         }
@@ -44,33 +48,48 @@ pub fn sample(rng: &mut Rng) -> Sample {
     }
 }
 
-/// In order, one section full. Groups cannot pass 28: four, two a level, eight details.
+/// In order, one section full.
 fn at_a_limit(rng: &mut Rng) -> Sample {
     let section = rng.pick(&SECTIONS);
-    let count = if section == Section::Groups { 28 } else { LIMITS[section as usize] };
-    Sample { bytes: valid::filled(rng, section, count).bytes(), rule: Some(0), name: NAMES[1] }
+    Sample { bytes: valid::filled(rng, section, 0).bytes(), rule: Some(0), name: NAMES[1] }
 }
 
 /// A number anywhere becomes a neighbour, a limit or a number that stands nearby.
 fn blind(rng: &mut Rng) -> Sample {
     let draft = valid::draft(rng);
     let mut image = draft.image();
-    let change = blind_change(rng, &draft, &image);
-    image.change(change);
+    match index_of_picture(rng, &draft) {
+        Some(index) if rng.chance(25) => change_picture(rng, &mut image, index),
+        _ => {
+            let change = blind_change(rng, &draft, &image);
+            image.change(change);
+        }
+    }
     Sample { bytes: image.bytes, rule: None, name: NAMES[2] }
 }
 
+fn index_of_picture(rng: &mut Rng, draft: &Draft) -> Option<usize> {
+    rng.maybe(&(0..draft.pictures.len()).collect::<Vec<_>>())
+}
+
+/// A byte of a picture, one of the first ones mostly, becomes another character of pictures.
+fn change_picture(rng: &mut Rng, image: &mut Image, index: usize) {
+    let any = rng.below(24);
+    let at = image.picture(index) + rng.pick(&[0, 1, 2, 3, 4, 5, any]);
+    image.bytes[at] = rng.pick(b"Z*9,.-CR ");
+}
+
 fn blind_change(rng: &mut Rng, draft: &Draft, image: &Image) -> Change {
-    let columns = [3, 1, 6, 4, 6, 4, 3, 0, 24];
     let mut sections = SECTIONS[..7].to_vec();
     sections.push(Section::Trailer);
     sections.retain(|&section| draft.entry_count(section) > 0);
     let section = rng.pick(&sections);
+    let columns = entry_bytes(draft.layout, section) / 2;
     let entry = rng.below(draft.entry_count(section));
-    let column = rng.below(columns[section as usize]);
+    let column = rng.below(columns);
     let before = image.number(section, entry, column);
     let other_entry = rng.below(draft.entry_count(section));
-    let other_column = rng.below(columns[section as usize]);
+    let other_column = rng.below(columns);
     let value = match rng.below(8) {
         0..=1 => before.wrapping_add(1),
         2..=3 => before.wrapping_sub(1),
@@ -84,7 +103,7 @@ fn blind_change(rng: &mut Rng, draft: &Draft, image: &Image) -> Change {
 
 /// A fault, then a number changed blindly on top: the lower rule has to win.
 fn two_faults(rng: &mut Rng) -> Sample {
-    let rule = rng.between(2, 8) as u8;
+    let rule = rng.between(2, 9) as u8;
     let (mut bytes, _) = broken::description(rng, rule);
     let at = rng.below(bytes.len() / 2) * 2;
     let value = rng.pick(&[0, 1, 2, 3, 255]);
@@ -94,12 +113,14 @@ fn two_faults(rng: &mut Rng) -> Sample {
 
 /// Bytes of any length, sometimes with a version and section starts that look right.
 fn random_bytes(rng: &mut Rng) -> Vec<u8> {
-    let length = rng.pick(&[0, 1, 47, 48, 49, 100, 300]);
+    let length = rng.pick(&[0, 1, 47, 48, 49, 51, 52, 53, 100, 300]);
     let mut bytes: Vec<u8> = (0..length).map(|_| rng.byte()).collect();
-    if length >= 48 && rng.chance(50) {
+    let version = rng.number(1, 2);
+    let trailer_bytes = Layout::of(version).unwrap_or_default().trailer_bytes();
+    if length >= trailer_bytes && rng.chance(50) {
         let end = bytes.len();
-        bytes[end - 48..end - 16].fill(0);
-        bytes[end - 2..].copy_from_slice(&[1, 0]);
+        bytes[end - trailer_bytes..end - 2 * LIMIT_NUMBERS].fill(0);
+        bytes[end - 2..].copy_from_slice(&version.to_le_bytes());
     }
     bytes
 }
@@ -130,7 +151,7 @@ fn damage_once(rng: &mut Rng, bytes: &mut Vec<u8>) {
         7 => bytes.extend((0..rng.between(1, 60)).map(|_| 0)),
         8 => bytes.push(rng.byte()),
         9 => bytes.swap(at, rng.below(length)),
-        10 => bytes.truncate(rng.pick(&[0, 47, 48])),
+        10 => bytes.truncate(rng.pick(&[0, 47, 48, 51, 52])),
         _ => bytes.iter_mut().skip(at).take(8).for_each(|byte| *byte = rng.byte()),
     }
 }

@@ -42,7 +42,7 @@ pub fn running(rng: &mut Rng, draft: &Draft, kept: &[u8]) -> Option<State> {
     }
     let near_the_limit = rng.chance(50);
     for sum in &mut state.sums[..draft.counters.len()] {
-        *sum = if near_the_limit { any_sum(rng) } else { rng.below(1000) as i64 };
+        *sum = if near_the_limit { any_sum(rng) } else { small_sum(rng) };
     }
     state.flags[..draft.details()].iter_mut().for_each(|flag| *flag = rng.below(2) as u8);
     state.kept[..kept.len()].copy_from_slice(kept);
@@ -54,6 +54,18 @@ fn page(rng: &mut Rng) -> u32 {
         0..=1 => LAST_PAGE - rng.below(3) as u32,
         2 => rng.between(1, LAST_PAGE as usize) as u32,
         _ => rng.between(1, 120) as u32,
+    }
+}
+
+/// Of a few digits, often where a picture becomes too narrow: 10^k - 1 and 10^k, of either sign.
+fn small_sum(rng: &mut Rng) -> i64 {
+    let power = 10i64.pow(rng.below(7) as u32);
+    match rng.below(6) {
+        0 => power - 1,
+        1 => power,
+        2 => 1 - power,
+        3 => -power,
+        _ => rng.below(1000) as i64,
     }
 }
 

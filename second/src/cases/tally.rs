@@ -9,8 +9,8 @@ use crate::report::Answer;
 
 #[derive(Clone, Debug)]
 pub struct Tally {
-    /// Answers of CHECK: accepted, then D1 to D8.
-    pub rules: [u64; 9],
+    /// Answers of CHECK: accepted, then D1 to D8 and rule 9.
+    pub rules: [u64; 10],
     /// Answers of INITIATE, GENERATE and TERMINATE: accepted, then refusals 1 to 9.
     pub answers: [[u64; 10]; 3],
     /// Everything else that is wanted, by name.
@@ -22,7 +22,7 @@ const CALLS: [&str; 3] = ["INITIATE", "GENERATE", "TERMINATE"];
 impl Default for Tally {
     fn default() -> Tally {
         let wanted = features::wanted().into_iter().map(|name| (name, 0)).collect();
-        Tally { rules: [0; 9], answers: [[0; 10]; 3], reached: wanted }
+        Tally { rules: [0; 10], answers: [[0; 10]; 3], reached: wanted }
     }
 }
 
@@ -65,7 +65,7 @@ impl Tally {
         }
     }
 
-    /// What should have been reached and was not.
+    /// What should have been reached and was not, or not often enough.
     pub fn missing(&self) -> Vec<String> {
         let mut missing = Vec::new();
         for (rule, &times) in self.rules.iter().enumerate() {
@@ -78,6 +78,12 @@ impl Tally {
             missing.extend(never.map(|&number| format!("{}: {}", CALLS[call], answer_name(number))));
         }
         missing.extend(self.reached.iter().filter(|(_, &times)| times == 0).map(|(name, _)| name.clone()));
+        for (name, often) in features::wanted_often() {
+            let times = self.reached[&name];
+            if (1..often).contains(&times) {
+                missing.push(format!("{name}: {times} times, not {often}"));
+            }
+        }
         missing
     }
 
@@ -109,9 +115,10 @@ impl Tally {
 /// The answers each call can give.
 const POSSIBLE: [&[usize]; 3] = [&[0, 1, 2, 3], &[0, 1, 2, 3, 4, 5, 6, 7, 8, 9], &[0, 1, 2, 3, 7, 8, 9]];
 
-fn rule_name(rule: usize) -> String {
+pub fn rule_name(rule: usize) -> String {
     match rule {
         0 => "accepted".to_string(),
+        9 => "rule 9".to_string(),
         _ => format!("D{rule}"),
     }
 }

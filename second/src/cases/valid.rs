@@ -1,21 +1,33 @@
-//! Random descriptions that keep D1 to D8.
+//! Random descriptions that keep D1 to D8 and rule 9, of every version.
 
-use super::draft::{Block, Count, Draft, Page, Row, Section, LIMITS};
+use super::draft::{Block, Count, Draft, Page, Row, Section};
+use super::pictures;
 use super::rng::Rng;
+use crate::builder::padded;
 use crate::description::{
     Addend, Field, Item, ADD_COUNTER, ADD_FIELD, CF, CH, DE, FIELD, FINAL, LINE_ABSOLUTE, LINE_COUNTER,
-    LINE_NEXT_PAGE, LINE_RELATIVE, LITERAL, NEXT_ABSOLUTE, NEXT_NONE, NEXT_PAGE, NEXT_RELATIVE, NUMBER,
-    PAGE_COUNTER, PF, PH, RF, RH, SUM, TEXT,
+    LINE_NEXT_PAGE, LINE_RELATIVE, LITERAL, NEXT_ABSOLUTE, NEXT_NONE, NEXT_PAGE, NEXT_RELATIVE, NO_PICTURE,
+    NUMBER, PAGE_COUNTER, PF, PH, RF, RH, SUM, TEXT,
 };
+use crate::layout::{Layout, PICTURE_BYTES};
+use crate::picture;
 
-/// A random description that keeps every rule.
+/// A random description that keeps every rule; half of them are of version 2.
 pub fn draft(rng: &mut Rng) -> Draft {
-    build(rng, false)
+    let version = rng.number(1, 2);
+    build(rng, version, false)
 }
 
 /// One that is rich in everything: a long page, wide lines, all groups, many fields.
 pub fn rich(rng: &mut Rng) -> Draft {
-    build(rng, true)
+    let version = rng.number(1, 2);
+    build(rng, version, true)
+}
+
+/// One of version 2.
+pub fn with_pictures(rng: &mut Rng) -> Draft {
+    let rich = rng.chance(10);
+    build(rng, 2, rich)
 }
 
 /// One whose pages end often, for the indicate flags: a short page, several details that indicate, a footing and a
@@ -32,11 +44,15 @@ pub fn turning(rng: &mut Rng) -> Draft {
     }
 }
 
-/// A rich description with exactly `count` entries in one section. It keeps the rules but for the
-/// section's limit, where `count` passes it.
-pub fn filled(rng: &mut Rng, section: Section, count: usize) -> Draft {
+/// A rich description with `past` entries in one section beyond its limit. It keeps the rules but for that limit.
+/// With none beyond it, groups stop at 28: four, two a level, eight details.
+pub fn filled(rng: &mut Rng, section: Section, past: usize) -> Draft {
     loop {
-        let mut draft = rich(rng);
+        let mut draft = if section == Section::Pictures { with_pictures(rng) } else { rich(rng) };
+        let count = match section {
+            Section::Groups if past == 0 => 28,
+            _ => draft.limit(section) + past,
+        };
         fill(rng, &mut draft, section, count);
         if draft.entry_count(section) == count {
             return draft;
@@ -44,8 +60,9 @@ pub fn filled(rng: &mut Rng, section: Section, count: usize) -> Draft {
     }
 }
 
-fn build(rng: &mut Rng, rich: bool) -> Draft {
+fn build(rng: &mut Rng, version: u16, rich: bool) -> Draft {
     let mut draft = Draft {
+        layout: Layout::of(version).expect("an accepted version"),
         page: if rich { long_page(rng) } else { page(rng) },
         width: if rich { 132 } else { line_width(rng) },
         record: if rich { 256 } else { record_length(rng) },
@@ -61,6 +78,7 @@ fn build(rng: &mut Rng, rich: bool) -> Draft {
     }
     add_counters(rng, &mut draft);
     add_items(rng, &mut draft);
+    add_unused_pictures(rng, &mut draft);
     draft
 }
 
@@ -273,7 +291,7 @@ fn step(rng: &mut Rng) -> u16 {
 // ---- lines
 
 fn add_lines(rng: &mut Rng, draft: &mut Draft, rich: bool) {
-    let mut left = LIMITS[Section::Lines as usize];
+    let mut left = draft.limit(Section::Lines);
     let mut order: Vec<usize> = (0..draft.groups.len()).collect();
     // PH counts from RH, RF from PF: those come first.
     order.sort_by_key(|&g| matches!(draft.groups[g].kind, PH | RF));
@@ -421,7 +439,7 @@ fn add_counters(rng: &mut Rng, draft: &mut Draft) {
             draft.counters.reverse();
         }
     }
-    let mut left = LIMITS[Section::Addends as usize];
+    let mut left = draft.limit(Section::Addends);
     for counter in 0..draft.counters.len() {
         let most = left - (draft.counters.len() - counter - 1);
         let addends = some_addends(rng, draft, counter, most.min(8));
@@ -492,7 +510,7 @@ fn some_addends(rng: &mut Rng, draft: &Draft, counter: usize, most: usize) -> Ve
 // ---- items
 
 fn add_items(rng: &mut Rng, draft: &mut Draft) {
-    let mut left = LIMITS[Section::Items as usize];
+    let mut left = draft.limit(Section::Items);
     for g in 0..draft.groups.len() {
         for l in 0..draft.groups[g].lines.len() {
             let items = line_items(rng, draft, g, left);
@@ -502,7 +520,7 @@ fn add_items(rng: &mut Rng, draft: &mut Draft) {
     }
 }
 
-fn line_items(rng: &mut Rng, draft: &Draft, group: usize, left: usize) -> Vec<Item> {
+fn line_items(rng: &mut Rng, draft: &mut Draft, group: usize, left: usize) -> Vec<Item> {
     let wanted = match rng.below(20) {
         0 => 0,
         1 => rng.between(1, 30),
@@ -520,7 +538,7 @@ fn line_items(rng: &mut Rng, draft: &Draft, group: usize, left: usize) -> Vec<It
     items
 }
 
-fn item(rng: &mut Rng, draft: &Draft, group: usize, column: u16) -> Item {
+fn item(rng: &mut Rng, draft: &mut Draft, group: usize, column: u16) -> Item {
     let room = draft.width - column + 1;
     let width = limited(rng, 1, room, 9);
     let choice = sources(rng, draft, group, width);
@@ -532,7 +550,54 @@ fn item(rng: &mut Rng, draft: &Draft, group: usize, column: u16) -> Item {
     let decimals =
         if is_number && width > 1 && rng.chance(40) { rng.number(0, (width - 1).min(4)) } else { 0 };
     let indicate = u16::from(draft.groups[group].kind == DE && rng.chance(30));
-    Item { column, width, source, index, decimals, indicate }
+    let item = Item { column, width, source, index, decimals, indicate, picture: NO_PICTURE };
+    let shows_text = source == LITERAL || (source == FIELD && !is_number);
+    if shows_text || !draft.layout.has_pictures() || rng.chance(35) {
+        return item;
+    }
+    with_picture(rng, draft, item, is_number)
+}
+
+/// The item with a picture that has room, one that is there already or a new one, and the width and decimals it asks for.
+fn with_picture(rng: &mut Rng, draft: &mut Draft, item: Item, may_have_point: bool) -> Item {
+    let room = ((draft.width - item.column + 1) as usize).min(PICTURE_BYTES);
+    let suits = |&at: &usize| {
+        let picture = &draft.pictures[at];
+        picture::text(picture).len() <= room && (may_have_point || picture::decimals(picture) == 0)
+    };
+    let there = (0..draft.pictures.len()).filter(suits).collect::<Vec<_>>();
+    let is_full = draft.pictures.len() == draft.limit(Section::Pictures);
+    let index = match rng.maybe(&there) {
+        Some(index) if is_full || rng.chance(20) => index,
+        _ if is_full => return item,
+        _ => {
+            let shape = pictures::shape(rng, room, may_have_point);
+            draft.pictures.push(padded(&shape.text()));
+            draft.pictures.len() - 1
+        }
+    };
+    let picture = &draft.pictures[index];
+    Item {
+        width: picture::text(picture).len() as u16,
+        decimals: picture::decimals(picture) as u16,
+        picture: index as u16,
+        ..item
+    }
+}
+
+/// Pictures that no item names, between the others.
+fn add_unused_pictures(rng: &mut Rng, draft: &mut Draft) {
+    let left = draft.limit(Section::Pictures) - draft.pictures.len();
+    let wanted = match rng.below(10) {
+        0..=4 => 0,
+        5 => left,
+        _ => rng.between(0, 3),
+    };
+    for _ in 0..wanted.min(left) {
+        let shape = pictures::shape(rng, PICTURE_BYTES, true);
+        let at = rng.between(0, draft.pictures.len());
+        draft.insert_picture(at, padded(&shape.text()));
+    }
 }
 
 /// One choice of each source the group may show; sums and fields stand twice.
@@ -570,7 +635,8 @@ fn fill(rng: &mut Rng, draft: &mut Draft, section: Section, count: usize) {
         Section::Counters => fill_counters(rng, draft, count),
         Section::Addends => fill_addends(rng, draft, count),
         Section::Literals => draft.literals.resize_with(count, || printable(rng)),
-        Section::Trailer => {}
+        Section::Pictures => fill_pictures(rng, draft, count),
+        Section::Trailer | Section::Limits => {}
     }
 }
 
@@ -586,6 +652,12 @@ fn fill_controls(draft: &mut Draft, count: usize) {
         if draft.controls.len() < count && !draft.controls.contains(&field) {
             draft.controls.push(field);
         }
+    }
+}
+
+fn fill_pictures(rng: &mut Rng, draft: &mut Draft, count: usize) {
+    while draft.layout.has_pictures() && draft.pictures.len() < count {
+        draft.pictures.push(padded(&pictures::shape(rng, PICTURE_BYTES, true).text()));
     }
 }
 

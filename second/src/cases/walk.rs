@@ -1,6 +1,6 @@
 //! The printed lines hold the groups that are due, in their order, each in its part of the page.
 
-use super::draft::{Block, Draft};
+use super::draft::{Block, Draft, Row};
 use super::rows;
 use super::sequence::{Call, Step};
 use crate::description::{CF, CH, DE, LINE_NEXT_PAGE, LINE_RELATIVE, PF, PH, RF, RH};
@@ -32,16 +32,18 @@ pub fn due<'a>(draft: &'a Draft, step: &Step) -> Vec<&'a Block> {
 
 /// Where an accepted call's lines lead.
 #[derive(Clone, Debug)]
-pub struct Walked {
+pub struct Walked<'a> {
     /// The page they end on.
     pub page: u32,
     /// The type of the group that each page change was for; RF has the one to its own page.
     pub turned: Vec<u16>,
+    /// What each line prints, with its group.
+    pub rows: Vec<(&'a Block, &'a Row)>,
 }
 
 /// Follows an accepted call's lines.
-pub fn walk(draft: &Draft, step: &Step, places: &[Place]) -> Result<Walked, String> {
-    let mut walk = Walk { draft, page: step.state.page, places, turned: Vec::new() };
+pub fn walk<'a>(draft: &'a Draft, step: &Step, places: &[Place]) -> Result<Walked<'a>, String> {
+    let mut walk = Walk { draft, page: step.state.page, places, turned: Vec::new(), rows: Vec::new() };
     let generate = matches!(step.call, Call::Generate { .. });
     if generate && step.state.phase == STARTED {
         walk.fixed(RH, draft.base(RH))?;
@@ -59,7 +61,7 @@ pub fn walk(draft: &Draft, step: &Step, places: &[Place]) -> Result<Walked, Stri
         walk.fixed(RF, draft.base(RF))?;
     }
     match walk.places {
-        [] => Ok(Walked { page: walk.page, turned: walk.turned }),
+        [] => Ok(Walked { page: walk.page, turned: walk.turned, rows: walk.rows }),
         _ => Err(format!("{} lines more than the groups due have", walk.places.len())),
     }
 }
@@ -99,16 +101,17 @@ pub fn own_page(draft: &Draft) -> bool {
 }
 
 /// The lines still to follow, and the page they should stand on.
-struct Walk<'a> {
+struct Walk<'a, 'p> {
     draft: &'a Draft,
     page: u32,
-    places: &'a [Place],
+    places: &'p [Place],
     turned: Vec<u16>,
+    rows: Vec<(&'a Block, &'a Row)>,
 }
 
-impl Walk<'_> {
+impl<'a> Walk<'a, '_> {
     /// Takes the lines of a group that begins at `start`.
-    fn take(&mut self, group: &Block, start: u16) -> Result<(), String> {
+    fn take(&mut self, group: &'a Block, start: u16) -> Result<(), String> {
         let mut line = start;
         for (nth, row) in group.lines.iter().enumerate() {
             line += if nth == 0 { 0 } else { row.integer };
@@ -119,6 +122,7 @@ impl Walk<'_> {
                 return Err(format!("a line at {place:?}, due at {:?}", (self.page, line)));
             }
             self.places = rest;
+            self.rows.push((group, row));
         }
         Ok(())
     }
@@ -152,7 +156,7 @@ impl Walk<'_> {
     }
 
     /// Takes a body group: at its own line, or anywhere it fits where that is relative.
-    fn body(&mut self, group: &Block) -> Result<(), String> {
+    fn body(&mut self, group: &'a Block) -> Result<(), String> {
         let first = &group.lines[0];
         if first.kind != LINE_RELATIVE {
             return self.take(group, first.integer);
