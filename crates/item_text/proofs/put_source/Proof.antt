@@ -2,7 +2,7 @@
 use mathlib.Core.Path.{_≡_}
 use native.Mathlib.Omega.{arith}
 use borrow.Author.Needs.{needs}
-use Rattle.item_text.specs.Items.{fieldText, sourceText}
+use Rattle.item_text.specs.Items.{numberText, fieldText, sourceText}
 use Rattle.item_text.proofs.put_source.Statement.{statement}
 use Rattle.item_text.proofs.put_source.Tie as tie
 
@@ -11,7 +11,7 @@ sum-kind : (c : tie.At-match-rest) → c .before .before .before .before .before
 sum-kind c = let r = c .match .rest in omega (arith, c .before .before .before .before .before .before .pre .kind, r .0 .0 .0 .1, r .0 .0 .1, r .0 .1, r .1)
 
 pub put-source-spec : {M : Type 1} → statement M
-unfolding sourceText fieldText
+unfolding sourceText fieldText numberText
 put-source-spec =
     tie.close
     (tie.spec
