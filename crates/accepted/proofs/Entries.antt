@@ -8,11 +8,10 @@ use native.Mathlib.Omega.{arith}
 use lib.Dec.{leb, ltb, eqb}
 use lib.ListN.{length, getD}
 use borrow.Author.Tests.{leb-true, ltb-true, eqb-true}
-use Rattle.ascii.proofs.Laws.{printable-there}
 use Rattle.counts.proofs.Laws.{by-test, and-l, and-r, all-at}
 use Rattle.file.specs.Limits.{lineMax, countersMax}
 use Rattle.tables.specs.declared.Head.{Head}
-use Rattle.tables.specs.Table.{fieldKind, fieldWidth, control, final, firstLine, lineCount, firstItem, itemCount, itemColumn, itemWidth, itemKind, itemIndex, itemOf, firstAddend, addendCount, addendKind}
+use Rattle.tables.specs.Table.{fieldKind, fieldWidth, control, final, firstLine, lineCount, firstItem, itemCount, itemColumn, itemWidth, itemKind, itemIndex, charactersOf, itemOf, firstAddend, addendCount, addendKind}
 use Rattle.lookup.specs.Find.{details}
 use Rattle.fields.specs.Fields.{insideRecord, widthOk, fieldOk, ruleD3}
 use Rattle.fields.specs.Controls.{controlOk, ruleD4}
@@ -23,6 +22,7 @@ use Rattle.counters.specs.Counters.{ownAddendOk, addendsOk, counterOk, ruleD8}
 use Rattle.rows.specs.Facts.{FieldsIn, ControlsIn}
 use Rattle.sums.specs.Facts.{AddendIn, CountersIn}
 use Rattle.line_text.specs.Facts.{ItemIn, ItemsIn}
+use Rattle.accepted.proofs.Pictures.{PictureIn}
 
 -- a width of its kind: a number's is at most 18
 number-width : (k w : ℕ) → (eqb k 0 && leb 1 w && leb w 64 || eqb k 1 && leb 2 w && leb w 18) ≡ true → k ≡ 1 → w ≤ 18
@@ -117,17 +117,13 @@ module _ (h : Head) (t : List ℕ) where
     column-whole : (i : ℕ) → itemOf h t i .column ≡ itemColumn h t i
     column-whole i = let z : h .istart + 7 * i ≡ h .istart + 7 * i + 0 = omega arith in ap (λ (k : ℕ). getD t k 0) z
 
-    module _ (e : ruleD7 h t chars ≡ true) where
+    module _ (e : ruleD7 h t chars ≡ true) (pictured : (g k m : ℕ) → g < h .groups → k < lineCount h t g → m < itemCount h t (firstLine h t g + k) → PictureIn h (itemOf h t (firstItem h t (firstLine h t g + k) + m))) where
       item-ok : (g k m : ℕ) → g < h .groups → k < lineCount h t g → m < itemCount h t (firstLine h t g + k) → itemOk h t g (firstLine h t g + k) m ≡ true
       unfolding ruleD7 groupItemsOk lineItemsOk
       item-ok g k m a b c =
           let x = all-at (groupItemsOk h t) g (h .groups) a (search (and-l, and-r)) in
           let y = all-at (ownLineOk h t g) k (lineCount h t g) b x in
           all-at (itemOk h t g (firstLine h t g + k)) m (itemCount h t (firstLine h t g + k)) c y
-
-      literals-there : h .literals ≤ length chars
-      unfolding ruleD7
-      literals-there = printable-there (h .literals) chars (search (and-l, and-r))
 
       item-wide : (g k m : ℕ) → g < h .groups → k < lineCount h t g → m < itemCount h t (firstLine h t g + k) → 1 ≤ itemWidth h t (firstItem h t (firstLine h t g + k) + m)
       unfolding itemOk
@@ -150,7 +146,8 @@ module _ (h : Head) (t : List ℕ) where
             field = field-in g i s;
             sum = sum-in g i s;
             decimals = leb-true _ _ (search (and-l, and-r) depth 8);
+            picture = pictured g k m a b c;
           }
 
-      pub items-in : h .width ≤ lineMax → ItemsIn h t chars
-      items-in w = record { sized = record { width = w; literals = literals-there }; each = item-in }
+      pub items-in : h .width ≤ lineMax → charactersOf h ≤ length chars → ItemsIn h t chars
+      items-in w n = record { sized = record { width = w; characters = n }; each = item-in }
