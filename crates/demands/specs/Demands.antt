@@ -15,6 +15,7 @@ use Rattle.groups.specs.Groups.{ruleD5}
 use Rattle.fits.specs.Fits.{ruleD6}
 use Rattle.items.specs.Items.{ruleD7}
 use Rattle.counters.specs.Counters.{ruleD8}
+use Rattle.pictures.specs.Pictures.{rule9}
 use Rattle.description.specs.declared.Checked.the-variants.{Accepted}
 use Rattle.description.specs.Check.{checked}
 use Rattle.state.specs.declared.State.{State}
@@ -26,7 +27,8 @@ use Rattle.book.specs.Demand.{Use, answer, run, Demand3}
 use Rattle.demands.specs.Calls.{Demand1}
 use Rattle.demands.specs.Bytes.{leaves, Demand1Bytes, Demand3Bytes}
 
--- document 01's rules of a description, D1 on its bytes and D2 to D8 on its tables; D2's limits are those of its version
+-- document 01's rules of a description, D1 on its bytes and D2 to D8 on its tables, and document 02's rule 9, on the pictures of version 2; D2's limits
+-- are those of its version
 pub record KeepsRules (d : List ℕ) : Type 0 where
   pub d1 : ruleD1 d ≡ true
   pub d2 : ruleD2 (version d) (headOf d) ≡ true
@@ -36,6 +38,7 @@ pub record KeepsRules (d : List ℕ) : Type 0 where
   pub d6 : ruleD6 (headOf d) (table d) ≡ true
   pub d7 : ruleD7 (headOf d) (table d) (characters d) ≡ true
   pub d8 : ruleD8 (headOf d) (table d) ≡ true
+  pub r9 : rule9 (version d) (headOf d) (table d) (characters d) ≡ true
 
 pub record Demands : Type 0 where
   -- "1. Whatever bytes come in as description, state or record, each call does its whole work or refuses by a number of the table. A refusal gives

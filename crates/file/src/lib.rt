@@ -249,9 +249,10 @@ fn sections_ok(d: &[u8]) -> bool
 }
 
 // "at least 48 bytes": no version has a shorter trailer, and below that none is read.
-pub const TRAILER_LEAST: usize = 4 * SECTIONS + 2 * SETTINGS;
+const TRAILER_LEAST: usize = 4 * SECTIONS + 2 * SETTINGS;
 
-fn has_trailer(d: &[u8]) -> bool
+// Whether there is room for the trailer of its version.
+pub fn has_trailer(d: &[u8]) -> bool
     ensures { λ r. ⌜ r ≡ leb (trailerSize (version (now (d .entry)))) (length (now (d .entry))) ⌝ }
 {
     if d.len() < TRAILER_LEAST {

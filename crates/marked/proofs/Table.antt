@@ -2,6 +2,7 @@
 -- Assumes nothing.
 use mathlib.Core.Path.{_≡_, refl, ap, _∙_}
 use Rattle.counts.specs.Below.{allBelow, sumBelow, firstBelow, listBelow, joinBelow}
+use Rattle.file.specs.Version as versions
 use Rattle.file.specs.Number.{num, bytesOfNumbers}
 use Rattle.file.specs.Rule.{ruled}
 use Rattle.file.specs.Sections.{ruleD1}
@@ -17,8 +18,9 @@ use Rattle.lines.specs.Lines.{span, stepOk, firstOk}
 use Rattle.fits.specs.Fits.{bodyFits, groupFits, linesOk, ruleD6}
 use Rattle.items.specs.Items.{lineItemsOk, groupItemsOk, ruleD7}
 use Rattle.counters.specs.Counters.{ruleD8}
+use Rattle.pictures.specs.Pictures.{rule9}
 use Rattle.description.specs.declared.Checked.the-variants.{Accepted}
-use Rattle.description.specs.Check.{from8, from7, from6, from5, from4, from3, judged, checked}
+use Rattle.description.specs.Check.{from9, from8, from7, from6, from5, from4, from3, judged, checked}
 use Rattle.number.specs.Value.{numberOf, valueFrom}
 use Rattle.rows.specs.Breaks.{controlDiffers, breakLevel}
 use Rattle.figures.specs.Number.{digits, placesIn, places, fraction, plain, signedText, alignRight, numberField}
@@ -29,16 +31,16 @@ use Rattle.marked.specs.Described.{sections, description}
 use Rattle.marked.specs.Marked.{cases, given, wanted}
 
 pub accepts : checked description ≡ Accepted
-unfolding description bytesOfNumbers allBelow sumBelow firstBelow listBelow joinBelow num ruled ruleD1 table characters theGroup details sharedOut ruleD2 fieldOk ruleD3 differs controlOk ruleD4 numbersOk alone ruleD5 span stepOk firstOk bodyFits groupFits linesOk ruleD6 lineItemsOk groupItemsOk ruleD7 ruleD8 from8 from7 from6 from5 from4 from3 judged checked
+unfolding description bytesOfNumbers allBelow sumBelow firstBelow listBelow joinBelow versions.sections versions.entrySize num ruled ruleD1 table characters theGroup details sharedOut ruleD2 fieldOk ruleD3 differs controlOk ruleD4 numbersOk alone ruleD5 span stepOk firstOk bodyFits groupFits linesOk ruleD6 lineItemsOk groupItemsOk ruleD7 ruleD8 rule9 from9 from8 from7 from6 from5 from4 from3 judged checked
 accepts = refl
 
 -- the table read from the bytes once, and not anew for each number of it
 sections-read : table description ≡ sections
-unfolding description bytesOfNumbers sumBelow listBelow joinBelow num table
+unfolding description bytesOfNumbers sumBelow listBelow joinBelow versions.sections versions.entrySize num table
 sections-read = refl
 
 cases-wanted : cases (headOf description) sections ≡ wanted
-unfolding cases wanted description bytesOfNumbers num sumBelow firstBelow theGroup theDetail span bodyOf frameOf lands followed dueOf pageChange pageChanges placedLines placed placeGroup placeAll numberOf valueFrom controlDiffers breakLevel digits placesIn places fraction plain signedText alignRight numberField
+unfolding cases wanted description bytesOfNumbers versions.sections versions.entrySize num sumBelow firstBelow theGroup theDetail span bodyOf frameOf lands followed dueOf pageChange pageChanges placedLines placed placeGroup placeAll numberOf valueFrom controlDiffers breakLevel digits placesIn places fraction plain signedText alignRight numberField
 cases-wanted = refl
 
 pub marked : given ≡ wanted

@@ -34,7 +34,8 @@ fn rule_word(rule: usize) {
         5 => say(b" (groups)"),
         6 => say(b" (lines)"),
         7 => say(b" (items)"),
-        _ => say(b" (counters)"),
+        8 => say(b" (counters)"),
+        _ => say(b" (pictures)"),
     }
 }
 
@@ -84,14 +85,13 @@ fn malformed_field(d: &[u8], k: usize) {
 pub fn record_length(d: &[u8]) -> usize
     ensures { λ r. ⌜ 1 ≤ r ⌝ }
 {
-    if d.len() < file::TRAILER_LEAST {
-        return 1;
+    if file::has_trailer(d) {
+        let n = file::setting_of(d, file::RECORD_LENGTH);
+        if 1 <= n {
+            return n;
+        }
     }
-    let n = file::setting_of(d, file::RECORD_LENGTH);
-    if n == 0 {
-        return 1;
-    }
-    n
+    1
 }
 
 fn wrong_length(d: &[u8], length: usize) {

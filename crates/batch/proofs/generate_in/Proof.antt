@@ -2,13 +2,12 @@
 -- Assumes nothing.
 use mathlib.Core.Path.{sym, _∙_}
 use borrow.Author.Needs.{needs}
-use Rattle.description.proofs.Answer.{literals-in}
 use Rattle.report.proofs.Checked.{accepted-so}
 use Rattle.batch.proofs.Laws.{comes-broken, comes-on}
 use Rattle.batch.proofs.generate_in.Statement.{statement}
 use Rattle.batch.proofs.generate_in.Tie as tie
 
--- from the literals back to CHECK's answer, and from there to the start
+-- from the characters back to CHECK's answer, and from there to the start
 abbrev checked : tie.After-characters-in → tie.After-check-in
 checked l = l .before .before .before .before .before .before
 
@@ -40,7 +39,7 @@ generate-in-spec =
     (λ c. search needs)
     (λ c κs. search needs)
     (λ c. search needs)
-    (λ c κs. literals-in _ (c .before .before .before .before .before .before .before .before .before .before .before .pre .0 .d1))
+    (λ c κs. let p = c .before .before .before .before .before .before .before .before .before .before .before .pre .0 in (p .d1, p .head))
     rows-on-requires
     (λ c. search needs)
     returns

@@ -2,12 +2,11 @@
 -- Assumes nothing.
 use mathlib.Core.Path.{sym, _∙_}
 use borrow.Author.Needs.{needs}
-use Rattle.description.proofs.Answer.{literals-in}
 use Rattle.report.proofs.Checked.{accepted-so, call-so, call-broken}
 use Rattle.report.proofs.call_in.Statement.{statement}
 use Rattle.report.proofs.call_in.Tie as tie
 
--- from the literals back to CHECK's answer, and from there to the start
+-- from the characters back to CHECK's answer, and from there to the start
 abbrev checked : tie.After-characters-in → tie.After-check-in
 checked l = l .before .before .before .before .before .before
 
@@ -37,7 +36,7 @@ call-in-spec =
     (λ c. search needs)
     (λ c κs. search needs)
     (λ c. search needs)
-    (λ c κs. literals-in _ (c .before .before .before .before .before .before .before .before .before .before .before .pre .d1))
+    (λ c κs. let p = c .before .before .before .before .before .before .before .before .before .before .before .pre in (p .d1, p .head))
     call-on-requires
     (λ c. search needs)
     returns
