@@ -53,7 +53,7 @@ extern "C" {
  * feeder's. */
 enum bailcurlew_refusal {
     BAILCURLEW_ACCEPTED = 0,
-    BAILCURLEW_DESCRIPTION = 1, /* the description breaks a rule; extra: the first one, 1 to 8 */
+    BAILCURLEW_DESCRIPTION = 1, /* the description breaks a rule; extra: the first one, 1 to 9 */
     BAILCURLEW_BAD_STATE = 2,   /* the state breaks its rules; a feeder holds a whole record or more */
     BAILCURLEW_PHASE = 3,       /* INITIATE when not idle; GENERATE, feed or TERMINATE when idle */
     BAILCURLEW_DETAIL = 4,      /* the number names no detail group */
@@ -66,7 +66,7 @@ enum bailcurlew_refusal {
     BAILCURLEW_BAD_CHUNK = 18   /* a chunk of 0 bytes or of over BAILCURLEW_CHUNK */
 };
 
-/* CHECK: 0 where the description is accepted, else the first broken rule, 1 to 8. */
+/* CHECK: 0 where the description is accepted, else the first broken rule, 1 to 9. */
 uint32_t bailcurlew_check(const uint8_t *description, size_t length);
 
 /* Writes a fresh state. */

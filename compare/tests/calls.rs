@@ -29,7 +29,7 @@ const OFTEN: u64 = 1_000;
 fn calls_leave_alike_and_everything_listed_is_reached() {
     let mut rng = Rng::new(SEED);
     let mut tally = Tally::new();
-    let mut rules = [0u64; 9];
+    let mut rules = [0u64; 10];
     for _ in 0..DESCRIPTIONS {
         let drawn = sample(&mut rng);
         let rule = checked_and_initiated(&drawn);

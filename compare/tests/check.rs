@@ -1,6 +1,6 @@
 //! CHECK of the proved library against the second program's, on random, broken and damaged descriptions.
 
-use second::cases::{sample, Rng};
+use second::cases::{accepted_description, pictured_description, sample, Rng};
 use second::description;
 
 const DESCRIPTIONS: usize = 60_000;
@@ -16,7 +16,7 @@ fn wanted(bytes: &[u8]) -> u32 {
 #[test]
 fn both_answer_alike_and_every_rule_is_reached() {
     let mut rng = Rng::new(20_261_115);
-    let mut reached = [0usize; 9];
+    let mut reached = [0usize; 10];
     for i in 0..DESCRIPTIONS {
         let drawn = sample(&mut rng);
         let answer = bailcurlew::check(&drawn.bytes);
@@ -27,16 +27,16 @@ fn both_answer_alike_and_every_rule_is_reached() {
     assert!(reached.iter().all(|&count| count > 100), "not reached often enough: {reached:?}");
 }
 
-/// Every prefix of a description, and every byte of its trailer changed.
+/// Every prefix of a description, and every byte of its trailer changed; of ten descriptions of each version at least.
 #[test]
 fn cuts_and_trailers() {
     let mut rng = Rng::new(7);
-    for _ in 0..20 {
-        let bytes = second::cases::accepted_description(&mut rng);
+    for i in 0..30 {
+        let bytes = if i % 3 == 0 { pictured_description(&mut rng) } else { accepted_description(&mut rng) };
         for end in 0..bytes.len() {
             assert_eq!(bailcurlew::check(&bytes[..end]), wanted(&bytes[..end]));
         }
-        for at in bytes.len() - 48..bytes.len() {
+        for at in bytes.len() - 52..bytes.len() {
             for change in [1u8, 2, 127, 128, 255] {
                 let mut damaged = bytes.clone();
                 damaged[at] = damaged[at].wrapping_add(change);

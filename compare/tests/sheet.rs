@@ -35,7 +35,7 @@ fn agrees(desc: &Path, rows: &Path) -> Written {
 
 #[test]
 fn prints_the_examples() {
-    for name in ["whole_run", "day_sheet"] {
+    for name in ["whole_run", "day_sheet", "pictures"] {
         let file = |kind: &str| example(&format!("{name}.{kind}"));
         let written = sheet(&[&file("desc"), &file("rows")]);
         assert_eq!(written.errors, "", "{name}");
@@ -140,7 +140,7 @@ fn has_a_word_for_every_rule() {
     let folder = Folder::new("rules");
     let rows = example("whole_run.rows");
     let mut rng = Rng::new(7);
-    let mut seen = [false; 8];
+    let mut seen = [false; 9];
     while seen.contains(&false) {
         let drawn = sample(&mut rng);
         if let Err(rule) = description::check(&drawn.bytes) {

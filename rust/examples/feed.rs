@@ -65,7 +65,7 @@ impl Sheet {
 
 fn reason(refused: Fed) -> String {
     match refused {
-        Fed { number: 1, extra, .. } => format!("the description breaks rule D{extra}"),
+        Fed { number: 1, extra, .. } => format!("the description breaks rule {extra}"),
         Fed { number: 6, extra, .. } => format!("field {extra}, counted from 0, is malformed"),
         Fed { number: 7, .. } => "a sum would leave its range".to_string(),
         Fed { number: 8, .. } => "the page after 999,999 would be needed".to_string(),

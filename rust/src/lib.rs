@@ -100,7 +100,7 @@ extern "C" {
 // In every call below: the pointers and lengths are those of slices and arrays that live through it, never null and also
 // where a slice is empty; what is written is borrowed mutably and so apart from all else; the library keeps no pointer.
 
-/// CHECK: 0 where the description is accepted, else the first broken rule, 1 to 8.
+/// CHECK: 0 where the description is accepted, else the first broken rule, 1 to 9.
 pub fn check(description: &[u8]) -> u32 {
     unsafe { bailcurlew_check(description.as_ptr(), description.len()) }
 }

@@ -208,7 +208,7 @@ fn the_program_says_what_is_refused() {
     let unfinished = "feed: TERMINATE after 1 records: the last record is unfinished, 3 bytes of it came\n";
     begins(b"AA+005AA+", unfinished, 44);
     let broken = fed_to_the_program(&example("whole_run.rows"), &[b"AA+005"]);
-    ends_with(&broken, 1, "feed: INITIATE: the description breaks rule D1\n", b"");
+    ends_with(&broken, 1, "feed: INITIATE: the description breaks rule 1\n", b"");
     let usage = Command::new(program()).output().expect("the example program");
     ends_with(&usage, 2, "usage: feed DESCRIPTION < RECORDS\n", b"");
 }

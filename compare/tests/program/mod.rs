@@ -27,7 +27,8 @@ pub const GENERATE: &str = "sheet: row {row}: {words}; refusal {number}, extra n
 pub const TERMINATE: &str = "sheet: TERMINATE: {words}; refusal {number}, extra number {extra}";
 
 /// What each of D1 to D8 is about.
-const RULES: [&str; 8] = ["sections", "page", "fields", "controls", "groups", "lines", "items", "counters"];
+const RULES: [&str; 9] =
+    ["sections", "page", "fields", "controls", "groups", "lines", "items", "counters", "pictures"];
 
 pub fn filled(message: &str, words: &[(&str, &dyn Display)]) -> String {
     let put = |text: String, (name, value): &(&str, &dyn Display)| {
