@@ -2,6 +2,7 @@
 use mathlib.Core.Path.{_≡_, sym, ap, ap₂, _∙_, subst}
 use Prim.Native.Nat.{ℕ, _+_, _-_, _/_, _%_, _^_, _≤_, _<_}
 use mathlib.Core.List.{List, [], _++_, append-nil}
+use native.Mathlib.Nat.{div-eq-of-lt}
 use native.Mathlib.Omega.{arith}
 use lib.ListN.{length, take, drop, replicate, set, length-append, length-drop, length-replicate, replicate-append-replicate, drop-of-length-le}
 use lib.Seq.{take-at, take-append-le, drop-append-le, drop-drop}
@@ -9,8 +10,8 @@ use Rattle.splice.specs.Splice.{splice}
 use Rattle.splice.proofs.Laws.{from-splice, splice-before, splice-set}
 use Rattle.digits.specs.Digits.{digits, places}
 use Rattle.digits.specs.Ends.{Ends}
-use Rattle.digits.proofs.Laws.{length-digits, digits-join, digits-last, digits-end}
-use Rattle.digits.proofs.PlaceLaws.{places-one, places-at, places-cut}
+use Rattle.digits.proofs.Laws.{length-digits, digits-join, digits-last, digits-end, digits-zero}
+use Rattle.digits.proofs.PlaceLaws.{places-one, places-at, places-cut, places-above}
 
 -- so many digits of a number; one of them
 pub ends-digits : (old : List ℕ) (end k n : ℕ) {new : List ℕ} → k ≤ end → new ≡ splice old (end - k) (digits k (n % 10 ^ k)) → Ends old end (digits k n) new (end - k)
@@ -79,3 +80,14 @@ holds old end n k {new} {at} room e l =
     ∙ ap (take k) (sym (drop-drop (p - k) at (splice old at d)) ∙ ap (drop (p - k)) (from-splice old at d at-most) ∙ drop-append-le (p - k) d rest few)
     ∙ take-append-le k (drop (p - k) d) rest long
     ∙ digits-end p k n l
+
+-- behind zeros, a small array holds the digits of every place
+pub ends-zeros : (m n : ℕ) {new : List ℕ} {at : ℕ} → n < 10 ^ 20 → Ends (replicate m 48) m (digits (places n) n) new at → new ≡ digits m n
+ends-zeros m n {new} {at} l e =
+    let p = places n in
+    let q : n / 10 ^ p ≡ 0 = div-eq-of-lt (places-above n l) in
+    let size : at + p ≡ m = ap (λ (k : ℕ). at + k) (sym (length-digits p n)) ∙ e .begins in
+    ends-front m 48 (digits p n) e
+    ∙ ap (λ (z : List ℕ). z ++ digits p n) (sym (ap (digits at) q ∙ digits-zero at))
+    ∙ sym (digits-join at p n)
+    ∙ ap (λ (k : ℕ). digits k n) size

@@ -1,12 +1,12 @@
 -- Laws of decimal digits, over the width. Assumes nothing.
 use mathlib.Core.Path.{_≡_, refl, sym, ap, _∙_}
-use Prim.Native.Nat.{ℕ, zero, suc, _+_, _-_, _*_, _/_, _%_, _^_, _≤_}
+use Prim.Native.Nat.{ℕ, zero, suc, _+_, _-_, _*_, _/_, _%_, _^_, _≤_, _<_}
 use mathlib.Core.List.{List, [], _∷_, _++_, append-assoc, append-nil}
 use native.Mathlib.Nat.{add-suc, add-zero, div-one, div-div-eq-div-mul, pow-suc, pow-succ', one-le-pow}
 use native.Mathlib.Omega.{arith}
 use lib.Arith.{mod-mul}
-use lib.ListN.{length, take, drop, length-append}
-use lib.Seq.{take-at, drop-at}
+use lib.ListN.{length, getD, take, drop, replicate, length-append, replicate-append-replicate}
+use lib.Seq.{take-at, drop-at, getD-take, getD-drop}
 use Rattle.splice.specs.Splice.{splice}
 use Rattle.splice.proofs.Laws.{splice-before}
 use Rattle.digits.specs.Digits.{digits}
@@ -62,3 +62,21 @@ digits-end w i n h =
 
 pub digits-fewer : (i k n : ℕ) → i ≤ k → digits i (n % 10 ^ k) ≡ digits i n
 digits-fewer i k n h = sym (digits-end k i (n % 10 ^ k) h) ∙ ap (λ (l : List ℕ). take i (drop (k - i) l)) (digits-last k n) ∙ digits-end k i n h
+
+-- one of them
+pub digits-at : (w i n : ℕ) → i < w → getD (digits w n) i 0 ≡ 48 + n / 10 ^ (w - 1 - i) % 10
+unfolding digits
+digits-at w i n h =
+    let k = w - 1 - i in
+    let e : w - (1 + k) ≡ i = omega arith in
+    sym (getD-take 1 (drop i (digits w n)) 0 0 (omega arith) ∙ getD-drop i (digits w n) 0 0 ∙ ap (λ (j : ℕ). getD (digits w n) j 0) (add-zero i))
+    ∙ ap (λ (j : ℕ). getD (take 1 (drop j (digits w n))) 0 0) (sym e)
+    ∙ ap (λ (l : List ℕ). getD l 0 0) (digits-part w k 1 n (omega arith))
+
+-- zeros in front
+pub digits-zero : (k : ℕ) → digits k 0 ≡ replicate k 48
+unfolding digits
+digits-zero zero = refl
+digits-zero (suc k) =
+    let e : k + 1 ≡ suc k = omega arith in
+    ap (λ (l : List ℕ). l ++ (48 ∷ [])) (digits-zero k) ∙ replicate-append-replicate k 1 48 ∙ ap (λ (j : ℕ). replicate j 48) e

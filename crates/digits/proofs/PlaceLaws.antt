@@ -50,6 +50,32 @@ placesIn-cut (suc j) f n h =
     rw (add-suc f j, placesIn-suc (f + j) n (omega (arith, p, o)), placesIn-cut j f (n / 10) (omega (arith, p)), div-div-eq-div-mul n 10 (10 ^ j), ← pow-succ' 10 j)
     (omega arith)
 
+-- a number is below the power of ten that its count says, and not below the one before
+placesIn-above : (f n : ℕ) → n < 10 ^ suc f → n < 10 ^ placesIn f n
+unfolding placesIn
+placesIn-above zero n h = h
+placesIn-above (suc f) n h =
+    by-ten n
+    (λ b. rw (placesIn-last (suc f) n b) b)
+    (λ b. rw (placesIn-suc f n b, add-one (placesIn f (n / 10))) (omega (arith, placesIn-above f (n / 10) (tenth-lt (suc f) n h), pow-suc 10 (placesIn f (n / 10)))))
+
+placesIn-some : (f n : ℕ) → 1 ≤ placesIn f n
+unfolding placesIn
+placesIn-some zero n = omega arith
+placesIn-some (suc f) n = by-cond (λ (k : ℕ). 1 ≤ k) (ltb n 10) (λ e. omega arith) (λ e. omega arith)
+
+placesIn-below : (f n : ℕ) → 0 < n → 10 ^ (placesIn f n - 1) ≤ n
+unfolding placesIn
+placesIn-below zero n h = h
+placesIn-below (suc f) n h =
+    by-ten n
+    (λ b. rw (placesIn-last (suc f) n b) h)
+    (λ b.
+    let k = placesIn f (n / 10) in
+    let o = placesIn-some f (n / 10) in
+    let e : k + 1 - 1 ≡ suc (k - 1) = omega arith in
+    rw (placesIn-suc f n b, e) (omega (arith, placesIn-below f (n / 10) (omega arith), pow-suc 10 (k - 1))))
+
 -- places
 
 pub places-le : (n : ℕ) → places n ≤ 20
@@ -78,3 +104,11 @@ places-at k n l h b =
     let one : n / 10 ^ k < 10 = div-lt-iff-lt-mul (one-le-pow k 10 (omega arith)) .1 (rw (add-one, pow-succ' 10 k) at b) in
     let most : k + 1 ≤ 20 = omega arith in
     places-cut k n l h (lt-of-lt-of-le b (pow-le-pow-right (omega arith) most)) ∙ omega (arith, places-one (n / 10 ^ k) one)
+
+pub places-above : (n : ℕ) → n < 10 ^ 20 → n < 10 ^ places n
+unfolding places
+places-above n h = placesIn-above 19 n h
+
+pub places-below : (n : ℕ) → 0 < n → 10 ^ (places n - 1) ≤ n
+unfolding places
+places-below n h = placesIn-below 19 n h

@@ -1,83 +1,111 @@
--- Laws of pictures. Assumes nothing.
+-- Laws of edited numbers. Assumes nothing.
 use mathlib.Core.Path.{_≡_, refl, sym, ap, _∙_}
-use Prim.Native.Nat.{ℕ, suc, _+_, _-_, _/_, _^_, _≤_, _<_}
-use mathlib.Core.Bool.{Bool, true, false, cond, _||_}
-use mathlib.Core.List.{List, [], _∷_}
-use native.Mathlib.Nat.{div-one}
+use Prim.Native.Nat.{ℕ, zero, suc, _+_, _-_, _*_, _≤_, _<_}
+use mathlib.Core.Bool.{Bool, true, false, cond, _&&_, _||_, not, false≢true}
+use mathlib.Core.List.{List, [], _∷_, _++_}
+use native.Mathlib.Nat.{le-of-suc-le-suc, not-suc-le-zero}
 use native.Mathlib.Omega.{arith}
+use borrow.Author.Tests.{eqb-true}
+use lib.Dec.{eqb}
 use lib.IntN.{ℤ, natAbs}
-use lib.ListN.{length, getD, drop, set, replicate, drop-of-length-le, length-drop, length-replicate}
-use lib.Seq.{drop-cons}
+use lib.ListN.{length, getD, take, drop, replicate, length-replicate}
+use lib.Seq.{length-take-le, take-at}
+use Rattle.counts.proofs.Laws.{by-test, by-cond, or-r}
 use Rattle.splice.specs.Splice.{splice}
-use Rattle.splice.proofs.Laws.{splice-nil, splice-set, splice-before, length-splice}
+use Rattle.splice.proofs.Laws.{drop-splice}
+use Rattle.little_endian.specs.Numbers.{number}
 use Rattle.figures.specs.Number.{isNegative}
-use Rattle.edited.specs.Edited.{isPlace, isSign, byteOf, cut, beyond, hasSign, edited, pictured, starred, picturePrint, countPlaces}
+use Rattle.picture.specs.Characters.{letterZ, star, nine, comma, minus, letterC, letterR, isPlace, isSign}
+use Rattle.picture.proofs.Laws.{drop-next}
+use Rattle.edited.specs.Edited.{cut, beyond, hidden, filler, byteOf, signByte, edited, starred, pictured, picturePrint}
+use Rattle.edited.specs.Reached.{Group}
 
-pub drop-all : (p : List ℕ) → drop (length p) p ≡ []
-drop-all p =
-    let h : length p ≤ length p = omega arith in
-    drop-of-length-le p h
+-- length
 
+pub length-edited : (negative : Bool) (n l : ℕ) (p : List ℕ) → length (edited negative n l p) ≡ length p
+unfolding edited
+length-edited negative n l [] = refl
+length-edited negative n l (c ∷ p) = ap suc (length-edited negative n c p)
+
+pub length-pictured : (p : List ℕ) (negative : Bool) (n : ℕ) → length (pictured p negative n) ≡ length p
+unfolding pictured
+length-pictured p negative n = by-cond (λ (l : List ℕ). length l ≡ length p) (starred p negative n) (λ e. length-replicate (length p) 42) (λ e. length-edited negative n 0 p)
+
+-- "the item's width is the picture's length"
+pub length-picturePrint : (p : List ℕ) (z : ℤ) → length (picturePrint p z) ≡ length p
+unfolding picturePrint
+length-picturePrint p z = length-pictured p (isNegative z) (natAbs z)
+
+-- one character
+
+pub edited-at : (negative : Bool) (n l : ℕ) (p : List ℕ) (i : ℕ) → i < length p
+    → getD (edited negative n l p) i 0 ≡ byteOf negative (getD (l ∷ p) i 0) (getD p i 0) (beyond (drop (suc i) p) n)
+unfolding edited
+edited-at negative n l [] i h = absurd (not-suc-le-zero h)
+edited-at negative n l (c ∷ p) zero h = refl
+edited-at negative n l (c ∷ p) (suc i) h = edited-at negative n c p i (le-of-suc-le-suc h)
+
+pub beyond-at : (n : ℕ) (p : List ℕ) (i : ℕ) → i < length p → beyond (drop i p) n ≡ cut (getD p i 0) (beyond (drop (i + 1) p) n)
+unfolding beyond
+beyond-at n p i h = ap (λ (q : List ℕ). beyond q n) (drop-next p i h)
+
+-- a character of a sign is none of the others
+pub by-sign : (F : ℕ → Type 0) (c : ℕ) → isSign c ≡ true → F minus → F letterC → F letterR → F c
+by-sign F c e x y z =
+    by-test (eqb c minus) (λ q. rw (eqb-true c minus q) x)
+    (λ q. let r = or-r (eqb c minus) (eqb c letterC || eqb c letterR) e q in
+    by-test (eqb c letterC) (λ u. rw (eqb-true c letterC u) y) (λ u. rw (eqb-true c letterR (or-r (eqb c letterC) (eqb c letterR) r u)) z))
+
+-- a write over another of the same length
+pub splice-again : (old : List ℕ) (at : ℕ) (xs ys : List ℕ) → length xs ≡ length ys → at ≤ length old → splice (splice old at xs) at ys ≡ splice old at ys
+unfolding splice
+splice-again old at xs ys e l =
+    let front : take at (splice old at xs) ≡ take at old = take-at (take at old) _ at (length-take-le at old l) in
+    let back : drop (at + length ys) (splice old at xs) ≡ drop (at + length ys) old = rw (← e) (drop-splice old at xs l) in
+    rw (front, back) refl
+
+-- the character in front of one, and the last
 pub in-front-next : (p : List ℕ) (i : ℕ) → 0 < i → getD p (i - 1) 0 ≡ getD (0 ∷ p) i 0
 in-front-next p i h =
     let e : suc (i - 1) ≡ i = omega arith in
     ap (λ (j : ℕ). getD (0 ∷ p) j 0) e
 
--- the picture from the character in front of i on
-module _ (p : List ℕ) (i : ℕ) (h : 0 < i) (l : i ≤ length p) where
-  pub drop-back : drop (i - 1) p ≡ getD p (i - 1) 0 ∷ drop i p
-  drop-back =
-      let e : suc (i - 1) ≡ i = omega arith in
-      let b : i - 1 < length p = omega arith in
-      drop-cons p (i - 1) 0 b ∙ ap (λ (j : ℕ). getD p (i - 1) 0 ∷ drop j p) e
+pub in-front-end : (p : List ℕ) → getD (0 ∷ p) (length p) 0 ≡ getD p (length p - 1) 0
+in-front-end [] = refl
+in-front-end (c ∷ p) = sym (in-front-next (c ∷ p) (suc (length p)) (omega arith))
 
-  pub beyond-at : (n : ℕ) → beyond (drop (i - 1) p) n ≡ cut (getD p (i - 1) 0) (beyond (drop i p) n)
-  unfolding beyond
-  beyond-at n = ap (λ (q : List ℕ). beyond q n) drop-back
+-- what hides a 0
+pub hidden-zero : (c y : ℕ) → cond (eqb c nine) y (filler c) ≡ cond (hidden c 0) (filler c) y
+hidden-zero c y = by-test (eqb c nine) (λ e. rw (e) refl) (λ e. rw (e) refl)
 
-  pub hasSign-at : hasSign (drop (i - 1) p) ≡ (isSign (getD p (i - 1) 0) || hasSign (drop i p))
-  unfolding hasSign
-  hasSign-at = ap hasSign drop-back
+-- four characters, read as a number
 
-  pub edited-at : (negative : Bool) (n : ℕ)
-      → byteOf negative (getD (0 ∷ p) (i - 1) 0) (getD p (i - 1) 0) (beyond (drop i p) n) ∷ edited negative n (getD (0 ∷ p) i 0) (drop i p)
-      ≡ edited negative n (getD (0 ∷ p) (i - 1) 0) (drop (i - 1) p)
-  unfolding edited
-  edited-at negative n =
-      let e = in-front-next p i h in
-      ap (λ (m : ℕ). byteOf negative (getD (0 ∷ p) (i - 1) 0) (getD p (i - 1) 0) (beyond (drop i p) n) ∷ edited negative n m (drop i p)) (sym e)
-      ∙ ap (edited negative n (getD (0 ∷ p) (i - 1) 0)) (sym drop-back)
+word : (p : List ℕ) (i : ℕ) → number 4 p i ≡ getD p i 0 + 256 * (getD p (i + 1) 0 + 256 * (getD p (i + 2) 0 + 256 * getD p (i + 3) 0))
+unfolding number
+word p i =
+    let e : i + 1 + 1 ≡ i + 2 = omega arith in
+    let f : i + 1 + 1 + 1 ≡ i + 3 = omega arith in
+    rw (f, e) refl
 
-pub length-edited : (negative : Bool) (n l : ℕ) (p : List ℕ) → length (edited negative n l p) ≡ length p
-unfolding edited
-length-edited negative n l [] = refl
-length-edited negative n l (c ∷ p) = ap (λ (k : ℕ). suc k) (length-edited negative n c p)
+pub four : (p : List ℕ) (i : ℕ) → ((k : ℕ) → getD p k 0 < 256) → (a b c d : ℕ) → a < 256 → b < 256 → c < 256 → d < 256
+    → number 4 p i ≡ a + 256 * (b + 256 * (c + 256 * d)) → (getD p i 0 ≡ a) × (getD p (i + 1) 0 ≡ b) × (getD p (i + 2) 0 ≡ c) × (getD p (i + 3) 0 ≡ d)
+four p i byte a b c d ka kb kc kd e =
+    let z = sym (word p i) ∙ e in
+    let k₀ = byte i in
+    let k₁ = byte (i + 1) in
+    let k₂ = byte (i + 2) in
+    let k₃ = byte (i + 3) in
+    (omega arith, omega arith, omega arith, omega arith)
 
-length-cond : (b : Bool) (negative : Bool) (n : ℕ) (p : List ℕ) → length (cond b (replicate (length p) 42) (edited negative n 0 p)) ≡ length p
-length-cond true negative n p = length-replicate (length p) 42
-length-cond false negative n p = length-edited negative n 0 p
+group-of : (p : List ℕ) (i c : ℕ) → ((k : ℕ) → getD p k 0 < 256) → c < 256 → isPlace c ≡ true → number 4 p i ≡ c + 256 * (comma + 256 * (c + 256 * c)) → Group p i
+group-of p i c byte k is e =
+    let f = four p i byte c comma c c k (omega arith) k k e in
+    record { one = ap isPlace (f .0) ∙ is; separator = f .1; two = ap isPlace (f .2) ∙ is; three = ap isPlace (f .3) ∙ is }
 
--- "the item's width is the picture's length"
-pub length-picturePrint : (p : List ℕ) (z : ℤ) → length (picturePrint p z) ≡ length p
-unfolding picturePrint pictured
-length-picturePrint p z = length-cond (starred p (isNegative z) (natAbs z)) (isNegative z) (natAbs z) p
-
--- a byte right in front of what is written
-pub set-front : (old : List ℕ) (at i y : ℕ) (ys zs : List ℕ) → 0 < i → y ∷ ys ≡ zs → at + i + length ys ≤ length old
-    → set (splice old (at + i) ys) (at + (i - 1)) y ≡ splice old (at + (i - 1)) zs
-set-front old at i y ys zs h z r =
-    let e : at + i ≡ at + (i - 1) + 1 = omega arith in
-    let w : at + (i - 1) < length (splice old (at + i) ys) = rw (length-splice old (at + i) ys r) (omega arith) in
-    splice-set (splice old (at + i) ys) (at + (i - 1)) y w
-    ∙ ap (λ (k : ℕ). splice (splice old k ys) (at + (i - 1)) (y ∷ [])) e
-    ∙ splice-before old (at + (i - 1)) (y ∷ []) ys (omega arith)
-    ∙ ap (splice old (at + (i - 1))) z
-
-pub room : (old : List ℕ) (at i : ℕ) (p : List ℕ) (negative : Bool) (n : ℕ) → i ≤ length p → at + length p ≤ length old
-    → at + i + length (edited negative n (getD (0 ∷ p) i 0) (drop i p)) ≤ length old
-room old at i p negative n l h = omega (arith, length-edited negative n (getD (0 ∷ p) i 0) (drop i p), length-drop i p)
-
--- nothing is written yet
-pub start : (old : List ℕ) (at : ℕ) (negative : Bool) (n l : ℕ) (q : List ℕ) → q ≡ [] → old ≡ splice old at (edited negative n l q)
-unfolding edited
-start old at negative n l q e = sym (splice-nil old at) ∙ ap (λ (r : List ℕ). splice old at (edited negative n l r)) (sym e)
+-- Z,ZZ or *,** or 9,99
+pub is-group : (p : List ℕ) (i w : ℕ) → ((k : ℕ) → getD p k 0 < 256) → w ≡ number 4 p i → (eqb w 1515859034 || (eqb w 707406890 || eqb w 960048185)) ≡ true → Group p i
+is-group p i w byte e h =
+    by-test (eqb w 1515859034) (λ q. group-of p i letterZ byte (omega arith) refl (sym e ∙ eqb-true w 1515859034 q))
+    (λ q. let r = or-r (eqb w 1515859034) (eqb w 707406890 || eqb w 960048185) h q in
+    by-test (eqb w 707406890) (λ u. group-of p i star byte (omega arith) refl (sym e ∙ eqb-true w 707406890 u))
+    (λ u. group-of p i nine byte (omega arith) refl (sym e ∙ eqb-true w 960048185 (or-r (eqb w 707406890) (eqb w 960048185) r u))))

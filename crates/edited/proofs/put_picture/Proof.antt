@@ -1,4 +1,4 @@
--- `picture::put_picture` meets its contract: the sign and the magnitude of v, read from its bits, are v's. Assumes nothing.
+-- `edited::put_picture` meets its contract: the sign and the magnitude of v, read from its bits, are v's. Assumes nothing.
 use mathlib.Core.Path.{ap, _∙_}
 use mathlib.Core.Bool.{Bool}
 use Prim.Native.Nat.{ℕ}
@@ -17,16 +17,14 @@ use Rattle.edited.proofs.put_picture.Tie as tie
 returns : tie.Need-returns
 unfolding picturePrint
 returns c =
-    let m = c .before .before .before .before in
-    let s = m .before .before .before in
+    let s = c .before .before .before .before .before .before .before in
     let a = s .args in
     let p = a .picture .now in
     let e = toZ-ofZ w64 (a .v) (s .fits .v) in
-    let n = m .magnitude .ensures ∙ ap natAbs e in
-    c .before .before .put-pictured .ensures
-    ∙ ap (λ (k : ℕ). splice (a .out .now) (a .at) (pictured p (ltZ (toZ w64 (ofZ w64 (a .v))) (pos 0)) k)) n
+    let n = c .before .before .before .before .magnitude .ensures ∙ ap natAbs e in
+    c .before .before .put-signed .ensures
+    ∙ ap (λ (m : ℕ). splice (a .out .now) (a .at) (pictured p (ltZ (toZ w64 (ofZ w64 (a .v))) (pos 0)) m)) n
     ∙ ap (λ (b : Bool). splice (a .out .now) (a .at) (pictured p b (natAbs (a .v)))) (ap (λ (z : ℤ). ltZ z (pos 0)) e ∙ isNegative-ltZ (a .v))
 
 pub put-picture-spec : {M : Type 1} → statement M
-put-picture-spec =
-    tie.close (tie.spec (λ c κs. search needs) (λ c κs. search needs) (λ c. search needs) returns)
+put-picture-spec = tie.close (tie.spec (λ c κs. search needs) (λ c κs. search needs) (λ c. search needs) returns)
