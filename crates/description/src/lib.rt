@@ -94,7 +94,7 @@ pub fn check_in(d: &[u8], h: Head, t: &mut [u16]) -> Checked
     judge(t, h, file::version_of(d), characters_in(d, h))
 }
 
-// CHECK: any bytes, nothing written.
+// CHECK: any bytes, nothing written. In the front of a small table where that is enough for the numbers.
 pub fn check(d: &[u8]) -> Checked
     ensures { λ r. ⌜ Answers (now (d .entry)) r ⌝ }
 {
@@ -102,6 +102,10 @@ pub fn check(d: &[u8]) -> Checked
         return Checked::Broken(1);
     };
     let n = unpacked::numbers_of(h);
+    if n <= unpacked::SMALL_TABLE {
+        let mut t = [unpacked::UNSET; unpacked::SMALL_TABLE];
+        return check_in(d, h, &mut t[..n]);
+    }
     let mut t = [unpacked::UNSET; unpacked::NUMBERS_MAX];
     check_in(d, h, &mut t[..n])
 }

@@ -282,8 +282,8 @@ fn call(f: Feeder, d: &[u8], asked: FeederCall, chunk: &[u8], out: &mut [u8]) ->
         return refusal(f, FeederVerdict::Call(Verdict::Description(1)));
     };
     let n = unpacked::numbers_of(h);
-    if n <= report::SMALL_TABLE {
-        let mut t = [unpacked::UNSET; report::SMALL_TABLE];
+    if n <= unpacked::SMALL_TABLE {
+        let mut t = [unpacked::UNSET; unpacked::SMALL_TABLE];
         return call_in(f, d, h, &mut t[..n], asked, chunk, out);
     }
     let mut t = [unpacked::UNSET; unpacked::NUMBERS_MAX];

@@ -39,9 +39,6 @@ fn call_in(
     }
 }
 
-// Numbers of a small table, which is sooner set up than one of the most.
-pub const SMALL_TABLE: usize = 512;
-
 // A call under a description, in the front of a small table where that is enough for its numbers.
 pub fn call(s: State, d: &[u8], asked: Asked, rec: &[u8], out: &mut [u8]) -> Answer
     ensures { λ r. ⌜ Returns (callSpec (now (d .entry)) s asked (now (rec .entry)) (now (out .entry))) r (now (out .exit)) ⌝ }
@@ -50,8 +47,8 @@ pub fn call(s: State, d: &[u8], asked: Asked, rec: &[u8], out: &mut [u8]) -> Ans
         return answer::refusal(s, Verdict::Description(1));
     };
     let n = unpacked::numbers_of(h);
-    if n <= SMALL_TABLE {
-        let mut t = [unpacked::UNSET; SMALL_TABLE];
+    if n <= unpacked::SMALL_TABLE {
+        let mut t = [unpacked::UNSET; unpacked::SMALL_TABLE];
         return call_in(s, d, h, &mut t[..n], asked, rec, out);
     }
     let mut t = [unpacked::UNSET; unpacked::NUMBERS_MAX];

@@ -26,6 +26,9 @@ pub const NUMBERS_MAX: usize = 3 * file::FIELDS_MAX
     + 4 * file::COUNTERS_MAX
     + 3 * file::ADDENDS_MAX;
 
+// Numbers of a small table, which is sooner set up than one of the most.
+pub const SMALL_TABLE: usize = 608;
+
 // What a table holds before its numbers are put in. Two bytes that differ: of equal ones LLVM makes a call of memset.
 pub const UNSET: u16 = 1;
 

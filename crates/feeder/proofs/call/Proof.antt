@@ -18,7 +18,7 @@ call-in-requires c κs =
     let n = c .before .before .before in
     let o = n .before .before .before .before in
     let p = under _ (o .opening-of .ensures) (n .before .before .h .given .1) in
-    (front-room _ (p .0) (p .1) (n .numbers-of .ensures) 512 1 (c .before .before .if1 .taken), o .before .before .before .before .pre)
+    (front-room _ (p .0) (p .1) (n .numbers-of .ensures) 608 1 (c .before .before .if1 .taken), o .before .before .before .before .pre)
 
 call-in-requires-2 : tie.Need-call-in-requires-2
 call-in-requires-2 c κs =
@@ -38,7 +38,7 @@ call-spec =
     (λ c. call-broken _ _ _ _ _ _ _ _ (d1-broken _ (broken _ (c .before .before .before .opening-of .ensures) (c .before .enum-told .given .1))) (c .refusal .ensures) refl)
     (λ c κs. search needs)
     (λ c. search needs)
-    (λ c. sym (front _ 512 1 (c .before .if1 .taken)))
+    (λ c. sym (front _ 608 1 (c .before .if1 .taken)))
     call-in-requires
     (λ c. search needs)
     (λ c. c .before .before .before .call-in .ensures)

@@ -24,8 +24,8 @@ call-spec =
     (λ c. call-broken _ _ (d1-broken _ (broken _ (c .before .before .before .opening-of .ensures) (c .before .enum-told .given .1))) _ _ (c .refusal .ensures) _ _ _)
     (λ c κs. search needs)
     (λ c. search needs)
-    (λ c. sym (front _ 512 1 (c .before .if1 .taken)))
-    (λ c κs. let p = under _ (c .before .before .before .before .before .before .before .opening-of .ensures) (c .before .before .before .before .before .h .given .1) in front-room _ (p .0) (p .1) (c .before .before .before .numbers-of .ensures) 512 1 (c .before .before .if1 .taken))
+    (λ c. sym (front _ 608 1 (c .before .if1 .taken)))
+    (λ c κs. let p = under _ (c .before .before .before .before .before .before .before .opening-of .ensures) (c .before .before .before .before .before .h .given .1) in front-room _ (p .0) (p .1) (c .before .before .before .numbers-of .ensures) 608 1 (c .before .before .if1 .taken))
     (λ c. search needs)
     (λ c. c .before .before .before .call-in .ensures)
     few
