@@ -2,7 +2,7 @@
 -- Assumes nothing.
 use Prim.Native.Nat.{ℕ, _≤_, _<_}
 use mathlib.Core.Path.{_≡_, refl, ap}
-use mathlib.Core.Bool.{Bool, true, false, cond}
+use mathlib.Core.Bool.{Bool, true, false, cond, _&&_}
 use mathlib.Core.List.{[], _∷_}
 use native.Mathlib.Omega.{arith}
 use borrow.Author.Tests.{ltb-true, eqb-true}
@@ -20,6 +20,14 @@ sections-with v e = ap (λ (b : Bool). cond b 9 8) e
 pub sections-without : (v : ℕ) → hasPictures v ≡ false → sections v ≡ 8
 unfolding sections
 sections-without v e = ap (λ (b : Bool). cond b 9 8) e
+
+-- a test of every section
+pub all-with : (v : ℕ) (p : ℕ → Bool) → hasPictures v ≡ true → allBelow (sections v) p ≡ (allBelow 8 p && p 8)
+unfolding allBelow
+all-with v p e = ap (λ (n : ℕ). allBelow n p) (sections-with v e)
+
+pub all-without : (v : ℕ) (p : ℕ → Bool) → hasPictures v ≡ false → allBelow (sections v) p ≡ allBelow 8 p
+all-without v p e = ap (λ (n : ℕ). allBelow n p) (sections-without v e)
 
 least : (b : Bool) → 8 ≤ cond b 9 8
 least true = omega arith

@@ -233,17 +233,28 @@ fn section_ok(d: &[u8], k: usize) -> bool
     (count_of(d, k) <= entry_limit(version_of(d), k)) & (end_of(d, k) == next_start(d, k))
 }
 
+// The sections that every version has. Their number is known here, so that the loop is unrolled.
+fn first_sections_ok(d: &[u8]) -> bool
+    requires { ⌜ HasTrailer (now d) ⌝ }
+    ensures { λ r. ⌜ r ≡ allBelow 8 (sectionOk (now (d .entry))) ⌝ }
+{
+    let mut ok = true;
+    let mut k = 0;
+    while k < SECTIONS {
+        let this = section_ok(d, k);
+        ok = ok & this;
+        k += 1;
+    }
+    ok
+}
+
 fn sections_ok(d: &[u8]) -> bool
     requires { ⌜ HasTrailer (now d) ⌝ }
     ensures { λ r. ⌜ r ≡ allBelow (sections (version (now (d .entry)))) (sectionOk (now (d .entry))) ⌝ }
 {
-    let n = sections_of(d);
-    let mut ok = true;
-    let mut k = 0;
-    while k < n {
-        let this = section_ok(d, k);
-        ok = ok & this;
-        k += 1;
+    let ok = first_sections_ok(d);
+    if has_pictures(version_of(d)) {
+        return ok & section_ok(d, SECTIONS);
     }
     ok
 }

@@ -7,6 +7,7 @@ ghost use lib.ListN.{length};
 ghost use Rattle.counts.specs.Below.{joinBelow};
 ghost use Rattle.splice.specs.Splice.{splice};
 ghost use Rattle.file.specs.Version.{settings};
+ghost use Rattle.file.specs.Number.{num};
 ghost use Rattle.file.specs.Trailer.{HasTrailer, count, setting};
 ghost use Rattle.file.specs.Sections.{ruleD1};
 ghost use Rattle.tables.specs.Section.{itemSection, counterSection, pictureSection, tableSections, words};
@@ -210,13 +211,41 @@ fn put_numbers(d: &[u8], from: usize, n: usize, at: usize, t: &mut [u16])
     }
 }
 
-// Puts an item of version 1: its six numbers, and that it has no picture.
+// A number of the file.
+fn number_at(d: &[u8], at: usize) -> u16
+    requires { ⌜ at + 2 ≤ length (now d) ⌝ }
+    ensures { λ r. ⌜ r ≡ num (now (d .entry)) at ⌝ }
+{
+    file::joined(d[at], d[at + 1])
+}
+
+// An item of version 1: its six numbers, and that it has no picture.
+fn plain_item(d: &[u8], from: usize) -> [u16; 7]
+    requires { ⌜ from + 12 ≤ length (now d) ⌝ }
+    ensures { λ r. ⌜ r ≡ plainItem (now (d .entry)) from ⌝ }
+{
+    [
+        number_at(d, from),
+        number_at(d, from + 2),
+        number_at(d, from + 4),
+        number_at(d, from + 6),
+        number_at(d, from + 8),
+        number_at(d, from + 10),
+        tables::NO_PICTURE,
+    ]
+}
+
+// Puts an item of version 1. All of it is read before the first number is stored, so that it is moved in a few words.
 fn put_plain_item(d: &[u8], from: usize, at: usize, t: &mut [u16])
     requires { ⌜ (from + 12 ≤ length (now d)) × (at + 7 ≤ length (now t)) ⌝ }
     ensures { λ _. ⌜ now (t .exit) ≡ splice (now (t .entry)) at (plainItem (now (d .entry)) from) ⌝ }
 {
-    put_numbers(d, from, 6, at, t);
-    t[at + 6] = tables::NO_PICTURE;
+    let x = plain_item(d, from);
+    let mut i = 0;
+    while i < 7 {
+        t[at + i] = x[i];
+        i += 1;
+    }
 }
 
 // Puts `n` items of version 1.
