@@ -56,9 +56,9 @@ call-on-spec =
     feed-rows-requires
     (λ c. search needs)
     (λ c κs. search needs)
-    (λ c. call-refused _ _ (one (start (c .before .before .before .before))) (last (start (c .before .before .before .before))) _ (start (c .before .before .before .before) .args .asked) (start (c .before .before .before .before) .args .chunk .now) _ (sym (tests-are (c .before .before .before .before)) ∙ c .before .before .tests .given .1) (c .refusal .ensures) refl)
-    (λ c. let k = c .before in call-begun _ _ _ _ _ _ _ _ (passed (k .before .before)) (k .enum-told2 .given .1) (c .begun .ensures) refl)
+    (λ c. let s = start (c .before .before .before .before) in call-refused (s .args .h) (s .args .t .now) (one s) (last s) (s .args .f) (s .args .asked) (s .args .chunk .now) (s .args .out .now) (sym (tests-are (c .before .before .before .before)) ∙ c .before .before .tests .given .1) (c .refusal .ensures) refl)
+    (λ c. let k = c .before in let s = start (k .before .before .before .before) in call-begun (s .args .h) (s .args .t .now) (one s) (last s) (s .args .f) (s .args .asked) (s .args .chunk .now) (s .args .out .now) (passed (k .before .before)) (k .enum-told2 .given .1) (c .begun .ensures) refl)
     (λ c. search needs)
-    (λ c. let k = c .before .before .before .before in call-fed _ _ _ _ _ _ _ _ (passed (k .before .before)) (k .enum-told3 .given .1) (c .before .before .feed-rows .ensures))
+    (λ c. let k = c .before .before .before .before in let s = start (k .before .before .before .before) in call-fed (s .args .h) (s .args .t .now) (one s) (last s) (s .args .f) (s .args .asked) (s .args .chunk .now) (s .args .out .now) (passed (k .before .before)) (k .enum-told3 .given .1) (c .before .before .feed-rows .ensures))
     (λ c. search needs)
-    (λ c. let k = c .before .before .before .before in call-ended _ _ _ _ _ _ _ _ (passed (k .before .before)) (k .enum-told4 .given .1) (c .before .before .ended .ensures)))
+    (λ c. let k = c .before .before .before .before in let s = start (k .before .before .before .before) in call-ended (s .args .h) (s .args .t .now) (one s) (last s) (s .args .f) (s .args .asked) (s .args .chunk .now) (s .args .out .now) (passed (k .before .before)) (k .enum-told4 .given .1) (c .before .before .ended .ensures)))

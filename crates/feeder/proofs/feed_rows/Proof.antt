@@ -4,6 +4,7 @@ use mathlib.Core.Path.{sym}
 use native.Mathlib.Omega.{arith}
 use borrow.Author.Needs.{needs}
 use lib.Seq.{length-take-le}
+use Rattle.stream.specs.Run.{rowOn}
 use Rattle.feeder.proofs.Laws.{used, feeds-rows}
 use Rattle.feeder.proofs.feed_rows.Statement.{statement}
 use Rattle.feeder.proofs.feed_rows.Tie as tie
@@ -26,7 +27,9 @@ settle-requires c κs =
 returns : tie.Need-returns
 returns c =
     let k = c .before .before .before .before in
-    feeds-rows _ _ _ _ (k .before .before .wide .ensures .is) (joining k .join .ensures .is) _ (k .rows-on .ensures) (c .settle .ensures)
+    let j = joining k in
+    let a = start j .args in
+    feeds-rows (a .f) (a .chunk .now) _ (rowOn (a .h) (a .t .now) (a .chars .now) (a .f .detail)) (k .before .before .wide .ensures .is) (j .join .ensures .is) (a .out .now) (k .rows-on .ensures) (c .settle .ensures)
 
 pub feed-rows-spec : {M : Type 1} → statement M
 feed-rows-spec =

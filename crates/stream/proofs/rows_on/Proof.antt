@@ -16,21 +16,41 @@ abbrev μ-loop : tie.MeasureT-loop
 μ-loop t h chars detail rows size out₀ n state₀ k₀ at₀ verdict₀ out state k at verdict = n - k
 
 -- the record that the loop is at ends inside the rows, and its lines inside the output
+add-call-on : tie.Need-add-call-on Inv-loop μ-loop
+add-call-on c = omega (arith, c .loop-test .taken, c .before .loop .inv .inRows, c .before .before .before .before .before .before .before .good)
+
 add-k : tie.Need-add-k Inv-loop μ-loop
-add-k c = omega (arith, c .before .before .before .before .before .before .before .before .before .before .before .before .before .before .before .good)
+add-k c =
+    let l = c .before .before .before .before .before .before .before .before in
+    omega (arith, l .loop-test .taken, l .before .loop .inv .inRows, l .before .before .before .before .before .before .before .good)
 
 add-at : tie.Need-add-at Inv-loop μ-loop
 add-at c =
-    let l = room-left _ _ _ _ _ _ _ (c .before .before .before .before .before .before .before .before .before .before .loop .inv) (omega arith) (omega arith) (c .before .before .before .before .before .before .call-on .ensures) (omega arith) in
-    omega (arith, c .before .before .before .before .before .before .before .before .before .before .before .before .before .before .before .before .good)
+    let o = c .before .before .before .before .before in
+    let l = o .before .before .before .before in
+    let u = l .before .loop .inv in
+    let m = room-left _ _ _ _ _ _ _ u (omega (arith, l .before .before .if1 .left)) (omega (arith, l .loop-test .taken, u .inRows)) (o .before .call-on .ensures) (omega (arith, o .out .given, u .long)) in
+    omega (arith, m, u .long, l .before .before .before .before .before .before .before .good)
+
+loop-less : tie.Need-loop-less Inv-loop μ-loop
+loop-less c =
+    let l = c .before .before .before .before .before .before .before .before .before in
+    omega (arith, l .before .before .if1 .left, l .loop-test .taken, l .before .loop .inv .inRows)
 
 loop-again : tie.Need-loop-again Inv-loop μ-loop
 loop-again c =
-    underway-next _ _ _ _ _ _ _ (c .before .before .before .before .before .before .before .before .before .before .loop .inv) (omega arith) (omega arith) (c .before .before .before .before .before .before .call-on .ensures) (omega arith) (sym (c .before .before .before .number .ensures) ∙ c .before .before .if2 .left)
+    let n = c .before .before .before in
+    let o = n .before .before in
+    let l = o .before .before .before .before in
+    let u = l .before .loop .inv in
+    underway-next _ _ _ _ _ _ _ u (omega (arith, l .before .before .if1 .left)) (omega (arith, l .loop-test .taken, u .inRows)) (o .before .call-on .ensures) (omega (arith, o .out .given, u .long)) (sym (n .number .ensures) ∙ c .before .before .if2 .left)
 
 returns-3 : tie.Need-returns-3 Inv-loop μ-loop
 returns-3 c =
-    underway-halt _ _ _ _ _ _ _ (c .before .before .before .before .before .before .before .before .loop .inv) (omega arith) (omega arith) (c .before .before .before .before .call-on .ensures) (omega arith) (λ z. c .if2 .taken (c .before .number .ensures ∙ z))
+    let o = c .before .before .before in
+    let l = o .before .before .before .before in
+    let u = l .before .loop .inv in
+    underway-halt _ _ _ _ _ _ _ u (omega (arith, l .before .before .if1 .left)) (omega (arith, l .loop-test .taken, u .inRows)) (o .before .call-on .ensures) (omega (arith, o .out .given, u .long)) (λ z. c .if2 .taken (c .before .number .ensures ∙ z))
 
 pub rows-on-spec : {M : Type 1} → statement M
 rows-on-spec =
@@ -40,21 +60,21 @@ rows-on-spec =
     μ-loop
     (λ c. underway-end _ (row-fits _ _ _ _) _ _ _ _ _ (underway-start _ _ _ _ _ _) (rw (c .if1 .taken) refl))
     (λ c. underway-start _ _ _ _ _ _)
+    (λ c. c .loop .inv .inRows)
+    add-call-on
     (λ c. omega arith)
     (λ c. omega arith)
-    (λ c. omega arith)
-    (λ c. omega arith)
-    (λ c. omega arith)
-    (λ c. omega arith)
-    (λ c. omega arith)
+    (λ c. omega (arith, c .loop-test .taken, c .before .loop .inv .inRows))
+    (λ c. c .before .before .loop .inv .inOut)
+    (λ c. c .before .before .loop .inv .inOut)
     (λ c. omega arith)
     (λ c κs. search needs)
     (λ c κs. search needs)
     add-k
     add-at
-    (λ c. omega arith)
+    loop-less
     loop-again
-    (λ c. omega arith)
-    (λ c. underway-done _ _ _ _ _ _ _ (c .before .loop .inv) (omega arith))
-    (λ c. omega arith)
+    (λ c. c .before .loop .inv .long)
+    (λ c. underway-done _ _ _ _ _ _ _ (c .before .loop .inv) (omega (arith, c .loop-test .left, c .before .loop .inv .inRows)))
+    (λ c. let o = c .before .before .before in omega (arith, o .out .given, o .before .before .before .before .before .loop .inv .long))
     returns-3)

@@ -3,7 +3,6 @@
 use borrow.Author.Needs.{needs}
 use borrow.Author.Tests.{not-true, not-false}
 use Rattle.work.proofs.Ready.{detail-few, row-short, clearable, later-comparable, later-adding, later-called, later-printable}
-use Rattle.work.proofs.Settled.{answered-so}
 use Rattle.work.proofs.Works.{flags-are, later-refused, later-so}
 use Rattle.work.proofs.later_row.Statement.{statement}
 use Rattle.work.proofs.later_row.Tie as tie
@@ -62,10 +61,10 @@ returns-2 c =
     let w = totals p in
     -- the state is `t4` here: the code lends parts of it
     let a = start w .args in
-    later-so _ _ _ _ _ _ _ (level w .break-level .ensures .0) (w .totals-later .ensures) (found w .find-detail .ensures .0) (p .before .later-plan .ensures) (p .place-of .ensures) (j .before .before .flags-at .ensures)
+    later-so (a .h) (a .t .now) (a .chars .now) (a .t4) (a .out .now) (a .detail) (a .rec .now) (level w .break-level .ensures .0) (w .totals-later .ensures) (found w .find-detail .ensures .0) (p .before .later-plan .ensures) (p .place-of .ensures) (j .before .before .flags-at .ensures)
     (flags-are (a .h) (a .t .now) (a .t4) _ _ (p .place-of .ensures) (m .measure .ensures) (j .before .flags-turned .ensures)) (j .job-of .ensures)
     (c .before .before .cleared .ensures) (c .before .kept-at .ensures)
-    (answered-so _ _ _ _ _ (not-false _ (p .before .before .if1 .left)) (c .conclude .ensures) (o .call .ensures))
+    (not-false _ (p .before .before .if1 .left)) (c .conclude .ensures) (o .call .ensures)
 
 pub later-row-spec : {M : Type 1} → statement M
 later-row-spec =
