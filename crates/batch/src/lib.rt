@@ -41,7 +41,16 @@ fn generate_in(
     match checked {
         Checked::Broken(rule) => stop(s, Verdict::Description(rule)),
         Checked::Accepted => {
-            stream::rows_on(t, h, description::characters_in(d, h), s, 0, rows, size, out)
+            stream::rows_on(
+                t,
+                h,
+                description::characters_in(d, h),
+                s,
+                0,
+                rows,
+                size,
+                out,
+            )
         }
     }
 }

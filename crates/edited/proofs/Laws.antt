@@ -5,8 +5,8 @@ use mathlib.Core.Bool.{Bool, true, false, cond, _&&_, _||_, not, false≢true}
 use mathlib.Core.List.{List, [], _∷_, _++_}
 use native.Mathlib.Nat.{le-of-suc-le-suc, not-suc-le-zero}
 use native.Mathlib.Omega.{arith}
-use borrow.Author.Tests.{eqb-true}
-use lib.Dec.{eqb}
+use borrow.Author.Tests.{eqb-true, ltb-false}
+use lib.Dec.{ltb, eqb}
 use lib.IntN.{ℤ, natAbs}
 use lib.ListN.{length, getD, take, drop, replicate, length-replicate}
 use lib.Seq.{length-take-le, take-at}
@@ -48,6 +48,15 @@ edited-at negative n l (c ∷ p) (suc i) h = edited-at negative n c p i (le-of-s
 pub beyond-at : (n : ℕ) (p : List ℕ) (i : ℕ) → i < length p → beyond (drop i p) n ≡ cut (getD p i 0) (beyond (drop (i + 1) p) n)
 unfolding beyond
 beyond-at n p i h = ap (λ (q : List ℕ). beyond q n) (drop-next p i h)
+
+-- tests that failed
+pub or-l-false : (a b : Bool) → (a || b) ≡ false → a ≡ false
+or-l-false true b e = e
+or-l-false false b e = refl
+
+pub or-r-false : (a b : Bool) → (a || b) ≡ false → b ≡ false
+or-r-false true b e = absurd (false≢true (sym e))
+or-r-false false b e = e
 
 -- a character of a sign is none of the others
 pub by-sign : (F : ℕ → Type 0) (c : ℕ) → isSign c ≡ true → F minus → F letterC → F letterR → F c
@@ -97,15 +106,18 @@ four p i byte a b c d ka kb kc kd e =
     let k₃ = byte (i + 3) in
     (omega arith, omega arith, omega arith, omega arith)
 
-group-of : (p : List ℕ) (i c : ℕ) → ((k : ℕ) → getD p k 0 < 256) → c < 256 → isPlace c ≡ true → number 4 p i ≡ c + 256 * (comma + 256 * (c + 256 * c)) → Group p i
-group-of p i c byte k is e =
-    let f = four p i byte c comma c c k (omega arith) k k e in
-    record { one = ap isPlace (f .0) ∙ is; separator = f .1; two = ap isPlace (f .2) ∙ is; three = ap isPlace (f .3) ∙ is }
+group-of : (first : ℕ) (p : List ℕ) (i j c : ℕ) → 4 ≤ i → first + 3 ≤ j → ((k : ℕ) → getD p k 0 < 256) → c < 256 → isPlace c ≡ true → number 4 p (i - 4) ≡ c + 256 * (comma + 256 * (c + 256 * c)) → Group first p i j
+group-of first p i j c more three byte k is e =
+    let f = four p (i - 4) byte c comma c c k (omega arith) k k e in
+    record { four = more; three = three; place₁ = ap isPlace (f .0) ∙ is; separator = f .1; place₂ = ap isPlace (f .2) ∙ is; place₃ = ap isPlace (f .3) ∙ is }
 
 -- Z,ZZ or *,** or 9,99
-pub is-group : (p : List ℕ) (i w : ℕ) → ((k : ℕ) → getD p k 0 < 256) → w ≡ number 4 p i → (eqb w 1515859034 || (eqb w 707406890 || eqb w 960048185)) ≡ true → Group p i
-is-group p i w byte e h =
-    by-test (eqb w 1515859034) (λ q. group-of p i letterZ byte (omega arith) refl (sym e ∙ eqb-true w 1515859034 q))
+pub is-group : (first : ℕ) (p : List ℕ) (i j w : ℕ) → (ltb i 4 || ltb j (first + 3)) ≡ false → ((k : ℕ) → getD p k 0 < 256) → w ≡ number 4 p (i - 4)
+    → (eqb w 1515859034 || (eqb w 707406890 || eqb w 960048185)) ≡ true → Group first p i j
+is-group first p i j w out byte e h =
+    let more = ltb-false i 4 (or-l-false (ltb i 4) (ltb j (first + 3)) out) in
+    let three = ltb-false j (first + 3) (or-r-false (ltb i 4) (ltb j (first + 3)) out) in
+    by-test (eqb w 1515859034) (λ q. group-of first p i j letterZ more three byte (omega arith) refl (sym e ∙ eqb-true w 1515859034 q))
     (λ q. let r = or-r (eqb w 1515859034) (eqb w 707406890 || eqb w 960048185) h q in
-    by-test (eqb w 707406890) (λ u. group-of p i star byte (omega arith) refl (sym e ∙ eqb-true w 707406890 u))
-    (λ u. group-of p i nine byte (omega arith) refl (sym e ∙ eqb-true w 960048185 (or-r (eqb w 707406890) (eqb w 960048185) r u))))
+    by-test (eqb w 707406890) (λ u. group-of first p i j star more three byte (omega arith) refl (sym e ∙ eqb-true w 707406890 u))
+    (λ u. group-of first p i j nine more three byte (omega arith) refl (sym e ∙ eqb-true w 960048185 (or-r (eqb w 707406890) (eqb w 960048185) r u))))

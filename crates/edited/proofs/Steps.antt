@@ -145,28 +145,33 @@ module _ {p : List ℕ} {negative : Bool} {n : ℕ} {old : List ℕ} {at i j : �
 
 -- a group of three digits, and 9.99: four characters from the right
 
-module _ {p : List ℕ} {negative : Bool} {n : ℕ} {old : List ℕ} {at i j : ℕ} {out : List ℕ} (r : Reached p negative n old at i j out) (i′ j′ : ℕ) (e : i ≡ i′ + 4) (q : j ≡ j′ + 3) (text : List ℕ) where
+module _ {p : List ℕ} {negative : Bool} {n : ℕ} {old : List ℕ} {at i j : ℕ} {out : List ℕ} (r : Reached p negative n old at i j out) (text : List ℕ) where
   -- offsets as the code has them
-  put : (separator : ℕ) {new : List ℕ} → new ≡ fourPut text j′ separator (at + i′) out
+  put : (i′ j′ separator : ℕ) {new : List ℕ} → new ≡ fourPut text j′ separator (at + i′) out
       → Reached p negative n old at i′ j′ (set (set (set (set out (at + (i′ + 3)) (getD text (j′ + 2) 0)) (at + (i′ + 2)) (getD text (j′ + 1) 0)) (at + (i′ + 1)) separator) (at + i′) (getD text j′ 0))
       → Reached p negative n old at i′ j′ new
-  put separator h s = rw (h, add-assoc at i′ 3, add-assoc at i′ 2, add-assoc at i′ 1) s
+  put i′ j′ separator h s = rw (h, add-assoc at i′ 3, add-assoc at i′ 2, add-assoc at i′ 1) s
 
-  pub put-group : {first : ℕ} → Worked n text first → first + 3 ≤ j → Group p i′ → {new : List ℕ} → new ≡ fourPut text j′ comma (at + i′) out → Reached p negative n old at i′ j′ new
-  put-group w h g f =
+  pub put-group : {first : ℕ} → Worked n text first → Group first p i j → {new : List ℕ} → new ≡ fourPut text (j - 3) comma (at + (i - 4)) out → Reached p negative n old at (i - 4) (j - 3) new
+  put-group w g f =
       let m = r .within .most in
-      let s₁ = put-digit r (i′ + 3) (omega arith) (j′ + 2) (omega arith) (w .all) (g .three) (some-left w j (omega arith) m) in
-      let s₂ = put-digit s₁ (i′ + 2) (omega arith) (j′ + 1) (omega arith) (w .all) (g .two) (some-left w (j′ + 2) (omega arith) (omega arith)) in
-      let s₃ = put-other s₂ (i′ + 1) (omega arith) (ap isPlace (g .separator)) (some-left w (j′ + 1) (omega arith) (omega arith)) comma (sym (ap (signByte negative) (g .separator))) in
-      put comma f (put-digit s₃ i′ refl j′ refl (w .all) (g .one) (some-left w (j′ + 1) (omega arith) (omega arith)))
+      let i′ = i - 4 in
+      let j′ = j - 3 in
+      let e : i ≡ i′ + 3 + 1 = omega (arith, g .four) in
+      let q : j ≡ j′ + 2 + 1 = omega (arith, g .three) in
+      let s₁ = put-digit r (i′ + 3) e (j′ + 2) q (w .all) (g .place₃) (some-left w j (omega (arith, g .three)) m) in
+      let s₂ = put-digit s₁ (i′ + 2) (omega arith) (j′ + 1) (omega arith) (w .all) (g .place₂) (some-left w (j′ + 2) (omega (arith, g .three)) (omega arith)) in
+      let s₃ = put-other s₂ (i′ + 1) (omega arith) (ap isPlace (g .separator)) (some-left w (j′ + 1) (omega (arith, g .three)) (omega arith)) comma (sym (ap (signByte negative) (g .separator))) in
+      put i′ j′ comma f (put-digit s₃ i′ refl j′ refl (w .all) (g .place₁) (some-left w (j′ + 1) (omega (arith, g .three)) (omega arith)))
 
-  pub put-cents : text ≡ digits room n → (getD p i′ 0 ≡ nine) × (getD p (i′ + 1) 0 ≡ point) × (getD p (i′ + 2) 0 ≡ nine) × (getD p (i′ + 3) 0 ≡ nine)
+  pub put-cents : (i′ j′ : ℕ) → i ≡ i′ + 4 → j ≡ j′ + 3 → text ≡ digits room n
+      → (getD p i′ 0 ≡ nine) × (getD p (i′ + 1) 0 ≡ point) × (getD p (i′ + 2) 0 ≡ nine) × (getD p (i′ + 3) 0 ≡ nine)
       → {new : List ℕ} → new ≡ fourPut text j′ point (at + i′) out → Reached p negative n old at i′ j′ new
-  put-cents t c f =
-      let s₁ = put-nine r (i′ + 3) (omega arith) (j′ + 2) (omega arith) t (c .3) in
+  put-cents i′ j′ e q t c f =
+      let s₁ = put-nine r (i′ + 3) (omega (arith, e)) (j′ + 2) (omega (arith, q)) t (c .3) in
       let s₂ = put-nine s₁ (i′ + 2) (omega arith) (j′ + 1) (omega arith) t (c .2) in
       let s₃ = put-sign s₂ (i′ + 1) (omega arith) (ap isPlace (c .1)) (ap (λ (x : ℕ). eqb x comma) (c .1)) point (sym (ap (signByte negative) (c .1))) in
-      put point f (put-nine s₃ i′ refl j′ refl t (c .0))
+      put i′ j′ point f (put-nine s₃ i′ refl j′ refl t (c .0))
 
 -- the whole item, or '*' over it
 

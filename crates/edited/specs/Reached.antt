@@ -36,12 +36,14 @@ pub record Reached (p : List ℕ) (negative : Bool) (n : ℕ) (old : List ℕ) (
 abbrev pub Moves : List ℕ → Bool → ℕ → ℕ → ℕ → ℕ → List ℕ → ℕ → ℕ → List ℕ → Type 0
 Moves p negative n at i j out i′ j′ new = (old : List ℕ) → Reached p negative n old at i j out → Reached p negative n old at i′ j′ new
 
--- three digit places and a comma behind the first of them
-pub record Group (p : List ℕ) (i : ℕ) : Type 0 where
-  pub one : isPlace (getD p i 0) ≡ true
-  pub separator : getD p (i + 1) 0 ≡ comma
-  pub two : isPlace (getD p (i + 2) 0) ≡ true
-  pub three : isPlace (getD p (i + 3) 0) ≡ true
+-- three digit places and a comma behind the first of them stand in front of i, and three digits in front of j
+pub record Group (first : ℕ) (p : List ℕ) (i j : ℕ) : Type 0 where
+  pub four : 4 ≤ i
+  pub three : first + 3 ≤ j
+  pub place₁ : isPlace (getD p (i - 4) 0) ≡ true
+  pub separator : getD p (i - 4 + 1) 0 ≡ comma
+  pub place₂ : isPlace (getD p (i - 4 + 2) 0) ≡ true
+  pub place₃ : isPlace (getD p (i - 4 + 3) 0) ≡ true
 
 -- a digit, a comma or a point, and the next two digits, put from the right
 abbrev pub fourPut : List ℕ → ℕ → ℕ → ℕ → List ℕ → List ℕ

@@ -132,26 +132,23 @@ fn put_groups(
 {
     let mut i = s.i;
     let mut j = s.j;
-    while i >= 4 {
-        if j < first + 3 {
-            return Spot { i: i, j: j };
-        }
-        if !is_group(picture, i - 4) {
-            return Spot { i: i, j: j };
-        }
-        put_four(text, j - 3, b',', at + (i - 4), out);
+    while is_group(first, picture, i, j) {
         i -= 4;
         j -= 3;
+        put_four(text, j, b',', at + i, out);
     }
     Spot { i: i, j: j }
 }
 
-// Whether Z,ZZ or *,** or 9,99 stands at i.
-fn is_group(picture: &[u8], i: usize) -> bool
-    requires { ⌜ i + 4 ≤ length (now picture) ⌝ }
-    ensures { λ r. ⌜ (r ≡ true → Group (now (picture .entry)) i) ⌝ }
+// Whether Z,ZZ or *,** or 9,99 stands in front of i, and there are three digits for it in front of j.
+fn is_group(first: usize, picture: &[u8], i: usize, j: usize) -> bool
+    requires { ⌜ (first ≤ room) × (i ≤ length (now picture)) ⌝ }
+    ensures { λ r. ⌜ (r ≡ true → Group first (now (picture .entry)) i j) ⌝ }
 {
-    let w = little_endian::number4(picture, i);
+    if (i < 4) | (j < first + 3) {
+        return false;
+    }
+    let w = little_endian::number4(picture, i - 4);
     (w == 0x5a5a2c5a) | ((w == 0x2a2a2c2a) | (w == 0x39392c39))
 }
 

@@ -269,7 +269,9 @@ fn call_in(
     let checked = description::check_in(d, h, t);
     match checked {
         Checked::Broken(rule) => refusal(f, FeederVerdict::Call(Verdict::Description(rule))),
-        Checked::Accepted => { call_on(t, h, description::characters_in(d, h), f, asked, chunk, out) }
+        Checked::Accepted => {
+            call_on(t, h, description::characters_in(d, h), f, asked, chunk, out)
+        }
     }
 }
 

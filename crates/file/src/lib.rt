@@ -99,7 +99,11 @@ const SECTIONS_MAX: usize = 9;
 fn section_count(v: usize) -> usize
     ensures { λ r. ⌜ (r ≡ sections v) × ((8 ≤ r) × (r ≤ 9)) ⌝ }
 {
-    if has_pictures(v) { SECTIONS_MAX } else { SECTIONS }
+    if has_pictures(v) {
+        SECTIONS_MAX
+    } else {
+        SECTIONS
+    }
 }
 
 fn trailer_size(v: usize) -> usize

@@ -41,3 +41,7 @@ isPlace c = eqb c nine || isFill c
 -- a character of "a final CR or '-'"
 abbrev pub isSign : ℕ → Bool
 isSign c = eqb c minus || (eqb c letterC || eqb c letterR)
+
+-- the request's list: there are no others
+abbrev pub isListed : ℕ → Bool
+isListed c = isPlace c || (eqb c comma || (eqb c point || isSign c))

@@ -169,16 +169,16 @@ module _ (d : List ℕ) (passes : ruleD1 d ≡ true) where
       (join-list (λ k. sectionNumbers d (k + counterSection)) (λ k. words (k + counterSection) * count d (k + counterSection)) (λ a. num d (start d counterSection + 2 * a)) 2 each
       ∙ (let e : sumBelow 2 (λ k. words (k + counterSection) * count d (k + counterSection)) ≡ numbers d - tableStart d counterSection = omega (arith, rest-size) in
       ap (λ (n : ℕ). listBelow n (λ a. num d (start d counterSection + 2 * a))) e)) where
-    each : (k : ℕ) → k < 2
-        → sectionNumbers d (k + counterSection)
-        ≡ listBelow (words (k + counterSection) * count d (k + counterSection)) (λ j. num d (start d counterSection + 2 * (sumBelow k (λ k. words (k + counterSection) * count d (k + counterSection)) + j)))
-    each zero l =
-        run d counterSection (entry-counter (version d))
-        ∙ ap (listBelow (4 * count d counterSection)) (fun-ext (λ j. let e : start d counterSection + 2 * j ≡ start d counterSection + 2 * (0 + j) = omega arith in ap (num d) e))
-    each (suc zero) l =
-        run d addendSection (entry-addend (version d))
-        ∙ ap (listBelow (3 * count d addendSection)) (fun-ext (λ j. let e : start d addendSection + 2 * j ≡ start d counterSection + 2 * (0 + 4 * count d counterSection + j) = omega (arith, counters-end) in ap (num d) e))
-    each (suc (suc k)) l = absurd (omega arith)
+        each : (k : ℕ) → k < 2
+            → sectionNumbers d (k + counterSection)
+            ≡ listBelow (words (k + counterSection) * count d (k + counterSection)) (λ j. num d (start d counterSection + 2 * (sumBelow k (λ k. words (k + counterSection) * count d (k + counterSection)) + j)))
+        each zero l =
+            run d counterSection (entry-counter (version d))
+            ∙ ap (listBelow (4 * count d counterSection)) (fun-ext (λ j. let e : start d counterSection + 2 * j ≡ start d counterSection + 2 * (0 + j) = omega arith in ap (num d) e))
+        each (suc zero) l =
+            run d addendSection (entry-addend (version d))
+            ∙ ap (listBelow (3 * count d addendSection)) (fun-ext (λ j. let e : start d addendSection + 2 * j ≡ start d counterSection + 2 * (0 + 4 * count d counterSection + j) = omega (arith, counters-end) in ap (num d) e))
+        each (suc (suc k)) l = absurd (omega arith)
 
 -- the parts of the table, and how long they are
 pub front-items : (d : List ℕ) → joinBelow itemSection (sectionNumbers d) ++ sectionNumbers d itemSection ≡ frontNumbers d

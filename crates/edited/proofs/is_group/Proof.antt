@@ -1,12 +1,28 @@
 -- `edited::is_group` meets its contract: four characters by their number. Assumes nothing.
+use Prim.Native.Nat.{_+_, _≤_}
+use mathlib.Core.Bool.{false≢true}
+use native.Mathlib.Omega.{arith}
 use borrow.Author.Needs.{needs}
-use Rattle.edited.proofs.Laws.{is-group}
+use borrow.Author.Tests.{ltb-false}
+use lib.Dec.{ltb}
+use Rattle.edited.proofs.Laws.{is-group, or-l-false}
 use Rattle.edited.proofs.is_group.Statement.{statement}
 use Rattle.edited.proofs.is_group.Tie as tie
+
+more : (c : tie.Else1) → 4 ≤ c .before .before .args .i
+more c = let a = c .before .before .args in ltb-false (a .i) 4 (or-l-false (ltb (a .i) 4) (ltb (a .j) (a .first + 3)) (c .if1 .left))
+
+returns-2 : tie.Need-returns-2
+returns-2 c h =
+    let a = c .before .before .before .args in
+    is-group (a .first) (a .picture .now) (a .i) (a .j) (c .number4 .result) (c .before .if1 .left) (λ k. c .before .before .shared-slice-known .given k .fits) (c .number4 .ensures .is) h
 
 pub is-group-spec : {M : Type 1} → statement M
 is-group-spec =
     tie.close
     (tie.spec
-    (λ c κs. search needs)
-    (λ c h. let a = c .before .before .args in is-group (a .picture .now) (a .i) (c .number4 .result) (λ k. c .before .shared-slice-known .given k .fits) (c .number4 .ensures .is) h))
+    (λ c. search needs)
+    (λ c h. absurd (false≢true h))
+    (λ c. omega (arith, more c))
+    (λ c κs. omega (arith, more c, c .before .before .pre .1))
+    returns-2)

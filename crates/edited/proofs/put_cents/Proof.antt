@@ -17,7 +17,7 @@ returns-3 c =
     let w = s .pre in
     let e : a .i ≡ a .i - 4 + 4 = omega (arith, b .before .before .if1 .left) in
     let f = four (a .picture .now) (a .i - 4) (λ k. b .before .before .before .before .shared-slice-known .given k .fits) nine point nine nine (omega arith) (omega arith) (omega arith) (omega arith) (sym (b .before .number4 .ensures .is) ∙ b .if2 .left) in (
-      λ negative n t old r. put-cents r (a .i - 4) 29 e refl (a .text .now) t f (c .before .before .put-four .ensures),
+      λ negative n t old r. put-cents r (a .text .now) (a .i - 4) 29 e refl t f (c .before .before .put-four .ensures),
       record { few = w .few; fits = omega (arith, w .fits); inside = omega (arith, w .inside); most = omega arith; enough = omega (arith, w .enough, e) },
     )
 

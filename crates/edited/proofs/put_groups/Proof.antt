@@ -1,12 +1,11 @@
 -- `edited::put_groups` meets its contract. The invariant: the characters from i on are printed, and the digits from j on are shown. Assumes nothing.
-use mathlib.Core.Path.{_≡_, refl, _∙_}
+use mathlib.Core.Path.{_≡_, refl}
 use mathlib.Core.Bool.{Bool}
 use Prim.Native.Nat.{ℕ, _+_, _-_, _≤_}
 use native.Mathlib.Omega.{arith}
 use borrow.Author.Needs.{needs}
-use borrow.Author.Tests.{not-false}
 use lib.ListN.{length}
-use Rattle.edited.specs.Reached.{Worked, Within, Moves}
+use Rattle.edited.specs.Reached.{Worked, Within, Moves, Group}
 use Rattle.edited.proofs.Steps.{put-group}
 use Rattle.edited.proofs.put_groups.Statement.{statement}
 use Rattle.edited.proofs.put_groups.Tie as tie
@@ -18,19 +17,19 @@ Inv-loop text first picture at out₀ i₀ j₀ out i j =
 abbrev μ-loop : tie.MeasureT-loop
 μ-loop text first picture at out₀ i₀ j₀ out i j = i
 
+-- the group that was found
+found : (c : tie.Then1 Inv-loop μ-loop) → let l = c .before .before in let a = l .before .before .before .args in Group (a .first) (a .picture .now) (l .loop .i) (l .loop .j)
+found c = c .before .is-group .ensures (c .if1 .taken)
+
 loop-again : tie.Need-loop-again Inv-loop μ-loop
 loop-again c =
-    let b = c .before .before .before .before .before in
-    let l = b .before .before .before .loop in
-    let a = b .before .before .before .before .before .before .args in
+    let t = c .before .before .before .before in
+    let l = t .before .before .loop in
+    let a = t .before .before .before .before .before .args in
     let w = l .inv .1 in
-    let g = b .is-group .ensures (not-false (b .is-group .result) (c .before .before .before .before .if2 .left)) in
-    let h = b .before .if1 .left in
-    let more = b .before .before .loop-test .taken in
-    let e : l .i ≡ l .i - 4 + 4 = omega (arith, more) in
-    let q : l .j ≡ l .j - 3 + 3 = omega (arith, h) in (
-      λ negative n k old r. put-group (l .inv .0 negative n k old r) (l .i - 4) (l .j - 3) e q (a .text .now) k h g (c .before .before .put-four .ensures),
-      record { few = w .few; fits = omega (arith, w .fits); inside = omega (arith, w .inside); most = omega (arith, w .most); enough = omega (arith, w .enough, e, q) },
+    let g = found t in (
+      λ negative n k old r. put-group (l .inv .0 negative n k old r) (a .text .now) k g (c .before .before .put-four .ensures),
+      record { few = w .few; fits = omega (arith, w .fits); inside = omega (arith, w .inside); most = omega (arith, w .most); enough = omega (arith, w .enough, g .four, g .three) },
       omega (arith, l .inv .2),
     )
 
@@ -41,17 +40,12 @@ put-groups-spec =
     Inv-loop
     μ-loop
     (λ c. (λ negative n w old r. r, c .before .before .pre .1, refl))
-    (λ c. omega arith)
-    (λ c. c .before .before .loop .inv .2)
-    (λ c. let l = c .before .before .loop in (l .inv .0, l .inv .1))
-    (λ c κs. omega arith)
-    (λ c. c .before .before .before .before .loop .inv .2)
-    (λ c. let l = c .before .before .before .before .loop in (l .inv .0, l .inv .1))
-    (λ c. omega arith)
-    (λ c. omega arith)
-    (λ c κs. (omega arith, omega arith))
-    (λ c. omega arith)
-    (λ c. omega arith)
+    (λ c κs. (c .before .before .before .pre .0, c .loop .inv .1 .inside))
+    (λ c. omega (arith, found c .four))
+    (λ c. omega (arith, found c .three))
+    (λ c. omega (arith, c .before .before .loop .inv .1 .inside, c .before .before .loop .inv .1 .fits, c .before .before .loop .inv .2))
+    (λ c κs. let w = c .before .before .before .loop .inv .1 in (omega (arith, found (c .before) .three, w .most), omega (arith, found (c .before) .four, w .inside, w .fits)))
+    (λ c. omega (arith, found (c .before .before .before .before) .four))
     loop-again
-    (λ c. c .before .loop .inv .2)
-    (λ c. (c .before .loop .inv .0, c .before .loop .inv .1)))
+    (λ c. c .before .before .loop .inv .2)
+    (λ c. let l = c .before .before .loop in (l .inv .0, l .inv .1)))
