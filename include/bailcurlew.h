@@ -19,7 +19,7 @@
  * without room a call that prints nothing is accepted, and one that prints is refused with 9. `output` and
  * `answer` need not be set beforehand.
  *
- * Stack: a call needs less than 32 KiB (measured, docs/AUDIT.md).
+ * Stack: a call needs less than 36 KiB (measured, docs/AUDIT.md).
  */
 #ifndef BAILCURLEW_H
 #define BAILCURLEW_H

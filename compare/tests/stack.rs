@@ -13,7 +13,7 @@ use second::state::State;
 const TOLD: usize = 7;
 
 /// Bytes of stack; what is measured is less.
-const BOUND: usize = 32_768;
+const BOUND: usize = 36_864;
 
 fn at(path: &str) -> PathBuf {
     Path::new(env!("CARGO_MANIFEST_DIR")).join(path)

@@ -9,13 +9,11 @@ use borrow.Author.Tests.{eqb-true, ltb-false}
 use lib.Dec.{ltb, eqb}
 use lib.IntN.{ℤ, natAbs}
 use lib.ListN.{length, getD, take, drop, replicate, length-replicate}
-use lib.Seq.{length-take-le, take-at}
 use Rattle.counts.proofs.Laws.{by-test, by-cond, or-r}
 use Rattle.splice.specs.Splice.{splice}
-use Rattle.splice.proofs.Laws.{drop-splice}
 use Rattle.little_endian.specs.Numbers.{number}
 use Rattle.figures.specs.Number.{isNegative}
-use Rattle.picture.specs.Characters.{letterZ, star, nine, comma, minus, letterC, letterR, isPlace, isSign}
+use Rattle.picture.specs.Characters.{letterZ, star, nine, comma, point, minus, letterC, letterR, isPlace, isSign}
 use Rattle.picture.proofs.Laws.{drop-next}
 use Rattle.edited.specs.Edited.{cut, beyond, hidden, filler, byteOf, signByte, edited, starred, pictured, picturePrint}
 use Rattle.edited.specs.Reached.{Group}
@@ -65,14 +63,6 @@ by-sign F c e x y z =
     (λ q. let r = or-r (eqb c minus) (eqb c letterC || eqb c letterR) e q in
     by-test (eqb c letterC) (λ u. rw (eqb-true c letterC u) y) (λ u. rw (eqb-true c letterR (or-r (eqb c letterC) (eqb c letterR) r u)) z))
 
--- a write over another of the same length
-pub splice-again : (old : List ℕ) (at : ℕ) (xs ys : List ℕ) → length xs ≡ length ys → at ≤ length old → splice (splice old at xs) at ys ≡ splice old at ys
-unfolding splice
-splice-again old at xs ys e l =
-    let front : take at (splice old at xs) ≡ take at old = take-at (take at old) _ at (length-take-le at old l) in
-    let back : drop (at + length ys) (splice old at xs) ≡ drop (at + length ys) old = rw (← e) (drop-splice old at xs l) in
-    rw (front, back) refl
-
 -- the character in front of one, and the last
 pub in-front-next : (p : List ℕ) (i : ℕ) → 0 < i → getD p (i - 1) 0 ≡ getD (0 ∷ p) i 0
 in-front-next p i h =
@@ -106,18 +96,32 @@ four p i byte a b c d ka kb kc kd e =
     let k₃ = byte (i + 3) in
     (omega arith, omega arith, omega arith, omega arith)
 
-group-of : (first : ℕ) (p : List ℕ) (i j c : ℕ) → 4 ≤ i → first + 3 ≤ j → ((k : ℕ) → getD p k 0 < 256) → c < 256 → isPlace c ≡ true → number 4 p (i - 4) ≡ c + 256 * (comma + 256 * (c + 256 * c)) → Group first p i j
-group-of first p i j c more three byte k is e =
-    let f = four p (i - 4) byte c comma c c k (omega arith) k k e in
-    record { four = more; three = three; place₁ = ap isPlace (f .0) ∙ is; separator = f .1; place₂ = ap isPlace (f .2) ∙ is; place₃ = ap isPlace (f .3) ∙ is }
+-- three digit places with a separator behind the first, and room for them
+module _ (first : ℕ) (p : List ℕ) (i j w : ℕ) (out : (ltb i 4 || ltb j (first + 3)) ≡ false) (byte : (k : ℕ) → getD p k 0 < 256) (e : w ≡ number 4 p (i - 4)) where
+  group-of : (a c s : ℕ) → a < 256 → c < 256 → s < 256 → isPlace a ≡ true → isPlace c ≡ true → eqb w (a + 256 * (s + 256 * (c + 256 * c))) ≡ true → Group first p i j s
+  group-of a c s ka kc ks isa isc q =
+      let f = four p (i - 4) byte a s c c ka ks kc kc (sym e ∙ eqb-true w _ q) in
+      record {
+        four = ltb-false i 4 (or-l-false (ltb i 4) (ltb j (first + 3)) out);
+        three = ltb-false j (first + 3) (or-r-false (ltb i 4) (ltb j (first + 3)) out);
+        place₁ = ap isPlace (f .0) ∙ isa;
+        between = f .1;
+        place₂ = ap isPlace (f .2) ∙ isc;
+        place₃ = ap isPlace (f .3) ∙ isc;
+      }
 
--- Z,ZZ or *,** or 9,99
-pub is-group : (first : ℕ) (p : List ℕ) (i j w : ℕ) → (ltb i 4 || ltb j (first + 3)) ≡ false → ((k : ℕ) → getD p k 0 < 256) → w ≡ number 4 p (i - 4)
-    → (eqb w 1515859034 || (eqb w 707406890 || eqb w 960048185)) ≡ true → Group first p i j
-is-group first p i j w out byte e h =
-    let more = ltb-false i 4 (or-l-false (ltb i 4) (ltb j (first + 3)) out) in
-    let three = ltb-false j (first + 3) (or-r-false (ltb i 4) (ltb j (first + 3)) out) in
-    by-test (eqb w 1515859034) (λ q. group-of first p i j letterZ more three byte (omega arith) refl (sym e ∙ eqb-true w 1515859034 q))
-    (λ q. let r = or-r (eqb w 1515859034) (eqb w 707406890 || eqb w 960048185) h q in
-    by-test (eqb w 707406890) (λ u. group-of first p i j star more three byte (omega arith) refl (sym e ∙ eqb-true w 707406890 u))
-    (λ u. group-of first p i j nine more three byte (omega arith) refl (sym e ∙ eqb-true w 960048185 (or-r (eqb w 707406890) (eqb w 960048185) r u))))
+  -- Z,ZZ or *,** or 9,99
+  pub is-group : (eqb w 1515859034 || (eqb w 707406890 || eqb w 960048185)) ≡ true → Group first p i j comma
+  is-group h =
+      by-test (eqb w 1515859034) (λ q. group-of letterZ letterZ comma (omega arith) (omega arith) (omega arith) refl refl q)
+      (λ q. let r = or-r (eqb w 1515859034) (eqb w 707406890 || eqb w 960048185) h q in
+      by-test (eqb w 707406890) (λ u. group-of star star comma (omega arith) (omega arith) (omega arith) refl refl u)
+      (λ u. group-of nine nine comma (omega arith) (omega arith) (omega arith) refl refl (or-r (eqb w 707406890) (eqb w 960048185) r u)))
+
+  -- 9.99 or Z.99 or *.99
+  pub is-cents : (eqb w 960048697 || (eqb w 960048730 || eqb w 960048682)) ≡ true → Group first p i j point
+  is-cents h =
+      by-test (eqb w 960048697) (λ q. group-of nine nine point (omega arith) (omega arith) (omega arith) refl refl q)
+      (λ q. let r = or-r (eqb w 960048697) (eqb w 960048730 || eqb w 960048682) h q in
+      by-test (eqb w 960048730) (λ u. group-of letterZ nine point (omega arith) (omega arith) (omega arith) refl refl u)
+      (λ u. group-of star nine point (omega arith) (omega arith) (omega arith) refl refl (or-r (eqb w 960048730) (eqb w 960048682) r u)))

@@ -12,18 +12,18 @@ use lib.ListN.{length, getD, take, drop, set, replicate, length-set, length-repl
 use lib.Seq.{length-take-le, take-suc, take-length, drop-length}
 use Rattle.counts.proofs.Laws.{by-test, by-cond}
 use Rattle.splice.specs.Splice.{splice}
-use Rattle.splice.proofs.Laws.{splice-down, splice-nil}
+use Rattle.splice.proofs.Laws.{splice-down, splice-nil, splice-over}
 use Rattle.digits.specs.Digits.{digits, places}
 use Rattle.digits.specs.Ends.{room, Ends}
 use Rattle.digits.proofs.Laws.{length-digits, digits-at}
 use Rattle.digits.proofs.PlaceLaws.{places-above, places-below}
 use Rattle.digits.proofs.EndLaws.{ends-zeros}
-use Rattle.picture.specs.Characters.{star, nine, comma, point, isPlace, isSign}
+use Rattle.picture.specs.Characters.{star, nine, comma, isPlace}
 use Rattle.file.specs.Limits.{pictureMax}
 use Rattle.picture.proofs.Laws.{cond-true, cond-false}
 use Rattle.edited.specs.Edited.{cut, beyond, hidden, commaByte, signByte, byteOf, edited, hasSign, starred, pictured}
 use Rattle.edited.specs.Reached.{Worked, Within, Reached, Group, fourPut}
-use Rattle.edited.proofs.Laws.{length-edited, edited-at, beyond-at, splice-again}
+use Rattle.edited.proofs.Laws.{length-edited, edited-at, beyond-at}
 
 -- the digits of a number, worked out into zeros
 pub worked : (n : ℕ) {old new : List ℕ} {at : ℕ} → old ≡ replicate room 48 → 0 < n → n < 10 ^ 20 → Ends old room (digits (places n) n) new at → Worked n new at
@@ -67,6 +67,9 @@ and-false : (b : Bool) → (b && false) ≡ false
 and-false true = refl
 and-false false = refl
 
+shown : (c v : ℕ) → 0 < v → hidden c v ≡ false
+shown c v some = ap (λ (b : Bool). not (eqb c nine) && b) (ne-eqb v 0 (λ z. omega (arith, some, z))) ∙ and-false (not (eqb c nine))
+
 cut-zero : (c : ℕ) → cut c 0 ≡ 0
 cut-zero c = by-cond (λ (k : ℕ). k ≡ 0) (isPlace c) (λ e. refl) (λ e. refl)
 
@@ -104,19 +107,14 @@ module _ {p : List ℕ} {negative : Bool} {n : ℕ} {old : List ℕ} {at i j : �
         within = record { few = r .within .few; fits = simp length-set (r .within .fits); inside = omega arith; most = most; enough = enough };
       }
 
-  -- a digit place shows its digit where some of the number is left, or where it is a 9
-  module _ (j′ : ℕ) (q : j ≡ j′ + 1) {text : List ℕ} (t : text ≡ digits room n) (is : isPlace (getD p i′ 0) ≡ true) where
-    shown : hidden (getD p i′ 0) (n / 10 ^ (room - j)) ≡ false → Reached p negative n old at i′ j′ (set out (at + i′) (getD text j′ 0))
-    shown h =
-        let v = n / 10 ^ (room - j) in
-        let l : getD text j′ 0 ≡ 48 + v % 10 = digit n j′ t (omega (arith, q, r .within .most)) ∙ ap (λ (k : ℕ). 48 + n / 10 ^ (room - k) % 10) (sym q) in
-        step j′ (getD text j′ 0) (omega (arith, r .within .most)) (omega (arith, r .within .enough)) (l ∙ cond-false _ _ h ∙ cond-true _ _ is) (sym (cond-true _ _ is) ∙ next-digit n j j′ q (r .within .most))
-
-    pub put-digit : 0 < n / 10 ^ (room - j) → Reached p negative n old at i′ j′ (set out (at + i′) (getD text j′ 0))
-    put-digit h = shown (ap (λ (b : Bool). not (eqb (getD p i′ 0) nine) && b) (ne-eqb (n / 10 ^ (room - j)) 0 (λ z. omega (arith, h, z))) ∙ and-false (not (eqb (getD p i′ 0) nine)))
-
-  pub put-nine : (j′ : ℕ) → j ≡ j′ + 1 → {text : List ℕ} → text ≡ digits room n → getD p i′ 0 ≡ nine → Reached p negative n old at i′ j′ (set out (at + i′) (getD text j′ 0))
-  put-nine j′ q t c = shown j′ q t (ap isPlace c) (ap (λ (x : ℕ). hidden x (n / 10 ^ (room - j))) c)
+  -- a digit place shows its digit where some of the number is left
+  pub put-digit : (j′ : ℕ) → j ≡ j′ + 1 → {text : List ℕ} → text ≡ digits room n → isPlace (getD p i′ 0) ≡ true → 0 < n / 10 ^ (room - j)
+      → Reached p negative n old at i′ j′ (set out (at + i′) (getD text j′ 0))
+  put-digit j′ q {text} t is some =
+      let v = n / 10 ^ (room - j) in
+      let c = getD p i′ 0 in
+      let l : getD text j′ 0 ≡ 48 + v % 10 = digit n j′ t (omega (arith, q, r .within .most)) ∙ ap (λ (k : ℕ). 48 + n / 10 ^ (room - k) % 10) (sym q) in
+      step j′ (getD text j′ 0) (omega (arith, r .within .most)) (omega (arith, r .within .enough)) (l ∙ cond-false _ _ (shown c v some) ∙ cond-true _ _ is) (sym (cond-true _ _ is) ∙ next-digit n j j′ q (r .within .most))
 
   -- any other character
   module _ (other : isPlace (getD p i′ 0) ≡ false) where
@@ -128,13 +126,11 @@ module _ {p : List ℕ} {negative : Bool} {n : ℕ} {old : List ℕ} {at i j : �
 
     -- a comma too where some of the number is left
     pub put-other : 0 < n / 10 ^ (room - j) → (y : ℕ) → y ≡ signByte negative (getD p i′ 0) → Reached p negative n old at i′ j (set out (at + i′) y)
-    put-other h y s =
+    put-other some y s =
         by-test (eqb (getD p i′ 0) comma)
         (λ z.
         let c = eqb-true (getD p i′ 0) comma z in
-        let l = getD (0 ∷ p) i′ 0 in
-        let shows : hidden l (n / 10 ^ (room - j)) ≡ false = ap (λ (b : Bool). not (eqb l nine) && b) (ne-eqb (n / 10 ^ (room - j)) 0 (λ z. omega (arith, h, z))) ∙ and-false (not (eqb l nine)) in
-        stays y (s ∙ ap (signByte negative) c ∙ cond-false _ _ shows ∙ cond-true _ _ z))
+        stays y (s ∙ ap (signByte negative) c ∙ cond-false _ _ (shown (getD (0 ∷ p) i′ 0) (n / 10 ^ (room - j)) some) ∙ cond-true _ _ z))
         (λ z. put-sign z y s)
 
   -- any character where nothing of the number is left
@@ -143,35 +139,22 @@ module _ {p : List ℕ} {negative : Bool} {n : ℕ} {old : List ℕ} {at i j : �
       let c = getD p i′ 0 in
       step j y (r .within .most) (omega (arith, r .within .enough)) (h ∙ ap (byteOf negative (getD (0 ∷ p) i′ 0) c) (sym z)) (ap (cut c) z ∙ cut-zero c ∙ sym z)
 
--- a group of three digits, and 9.99: four characters from the right
+-- a group of three digits, with a comma or a point: four characters from the right
 
-module _ {p : List ℕ} {negative : Bool} {n : ℕ} {old : List ℕ} {at i j : ℕ} {out : List ℕ} (r : Reached p negative n old at i j out) (text : List ℕ) where
-  -- offsets as the code has them
-  put : (i′ j′ separator : ℕ) {new : List ℕ} → new ≡ fourPut text j′ separator (at + i′) out
-      → Reached p negative n old at i′ j′ (set (set (set (set out (at + (i′ + 3)) (getD text (j′ + 2) 0)) (at + (i′ + 2)) (getD text (j′ + 1) 0)) (at + (i′ + 1)) separator) (at + i′) (getD text j′ 0))
-      → Reached p negative n old at i′ j′ new
-  put i′ j′ separator h s = rw (h, add-assoc at i′ 3, add-assoc at i′ 2, add-assoc at i′ 1) s
-
-  pub put-group : {first : ℕ} → Worked n text first → Group first p i j → {new : List ℕ} → new ≡ fourPut text (j - 3) comma (at + (i - 4)) out → Reached p negative n old at (i - 4) (j - 3) new
-  put-group w g f =
-      let m = r .within .most in
-      let i′ = i - 4 in
-      let j′ = j - 3 in
-      let e : i ≡ i′ + 3 + 1 = omega (arith, g .four) in
-      let q : j ≡ j′ + 2 + 1 = omega (arith, g .three) in
-      let s₁ = put-digit r (i′ + 3) e (j′ + 2) q (w .all) (g .place₃) (some-left w j (omega (arith, g .three)) m) in
-      let s₂ = put-digit s₁ (i′ + 2) (omega arith) (j′ + 1) (omega arith) (w .all) (g .place₂) (some-left w (j′ + 2) (omega (arith, g .three)) (omega arith)) in
-      let s₃ = put-other s₂ (i′ + 1) (omega arith) (ap isPlace (g .separator)) (some-left w (j′ + 1) (omega (arith, g .three)) (omega arith)) comma (sym (ap (signByte negative) (g .separator))) in
-      put i′ j′ comma f (put-digit s₃ i′ refl j′ refl (w .all) (g .place₁) (some-left w (j′ + 1) (omega (arith, g .three)) (omega arith)))
-
-  pub put-cents : (i′ j′ : ℕ) → i ≡ i′ + 4 → j ≡ j′ + 3 → text ≡ digits room n
-      → (getD p i′ 0 ≡ nine) × (getD p (i′ + 1) 0 ≡ point) × (getD p (i′ + 2) 0 ≡ nine) × (getD p (i′ + 3) 0 ≡ nine)
-      → {new : List ℕ} → new ≡ fourPut text j′ point (at + i′) out → Reached p negative n old at i′ j′ new
-  put-cents i′ j′ e q t c f =
-      let s₁ = put-nine r (i′ + 3) (omega (arith, e)) (j′ + 2) (omega (arith, q)) t (c .3) in
-      let s₂ = put-nine s₁ (i′ + 2) (omega arith) (j′ + 1) (omega arith) t (c .2) in
-      let s₃ = put-sign s₂ (i′ + 1) (omega arith) (ap isPlace (c .1)) (ap (λ (x : ℕ). eqb x comma) (c .1)) point (sym (ap (signByte negative) (c .1))) in
-      put i′ j′ point f (put-nine s₃ i′ refl j′ refl t (c .0))
+pub put-group : {p : List ℕ} {negative : Bool} {n : ℕ} {old : List ℕ} {at i j : ℕ} {out : List ℕ} (r : Reached p negative n old at i j out) (text : List ℕ) {first : ℕ} (separator : ℕ)
+    → Worked n text first → Group first p i j separator → isPlace separator ≡ false → signByte negative separator ≡ separator
+    → {new : List ℕ} → new ≡ fourPut text (j - 3) separator (at + (i - 4)) out → Reached p negative n old at (i - 4) (j - 3) new
+put-group {p} {negative} {n} {old} {at} {i} {j} {out} r text {first} separator w g other stays {new} f =
+    let m = r .within .most in
+    let i′ = i - 4 in
+    let j′ = j - 3 in
+    let e : i ≡ i′ + 3 + 1 = omega (arith, g .four) in
+    let q : j ≡ j′ + 2 + 1 = omega (arith, g .three) in
+    let s₁ = put-digit r (i′ + 3) e (j′ + 2) q (w .all) (g .place₃) (some-left w j (omega (arith, g .three)) m) in
+    let s₂ = put-digit s₁ (i′ + 2) (omega arith) (j′ + 1) (omega arith) (w .all) (g .place₂) (some-left w (j′ + 2) (omega (arith, g .three)) (omega arith)) in
+    let s₃ = put-other s₂ (i′ + 1) (omega arith) (ap isPlace (g .between) ∙ other) (some-left w (j′ + 1) (omega (arith, g .three)) (omega arith)) separator (sym (ap (signByte negative) (g .between) ∙ stays)) in
+    let s₄ = put-digit s₃ i′ refl j′ refl (w .all) (g .place₁) (some-left w (j′ + 1) (omega (arith, g .three)) (omega arith)) in
+    rw (f, add-assoc at i′ 3, add-assoc at i′ 2, add-assoc at i′ 1) s₄
 
 -- the whole item, or '*' over it
 
@@ -196,5 +179,5 @@ module _ {p : List ℕ} {negative : Bool} {n : ℕ} {old : List ℕ} {at j : ℕ
   put-stars e {new} h fits =
       h
       ∙ ap (λ (o : List ℕ). splice o at (replicate (length p) star)) (reached-all r)
-      ∙ splice-again old at (edited negative n 0 p) (replicate (length p) star) (length-edited negative n 0 p ∙ sym (length-replicate (length p) star)) fits
+      ∙ splice-over old at (edited negative n 0 p) (replicate (length p) star) (omega (arith, length-edited negative n 0 p, length-replicate (length p) star)) fits
       ∙ ap (splice old at) (cond-true _ _ (sym test ∙ e))

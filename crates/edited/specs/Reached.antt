@@ -7,7 +7,7 @@ use lib.ListN.{length, getD, take, drop, set}
 use Rattle.splice.specs.Splice.{splice}
 use Rattle.digits.specs.Digits.{digits}
 use Rattle.digits.specs.Ends.{room}
-use Rattle.picture.specs.Characters.{comma, isPlace}
+use Rattle.picture.specs.Characters.{isPlace}
 use Rattle.file.specs.Limits.{pictureMax}
 use Rattle.edited.specs.Edited.{beyond, edited}
 
@@ -36,12 +36,12 @@ pub record Reached (p : List ℕ) (negative : Bool) (n : ℕ) (old : List ℕ) (
 abbrev pub Moves : List ℕ → Bool → ℕ → ℕ → ℕ → ℕ → List ℕ → ℕ → ℕ → List ℕ → Type 0
 Moves p negative n at i j out i′ j′ new = (old : List ℕ) → Reached p negative n old at i j out → Reached p negative n old at i′ j′ new
 
--- three digit places and a comma behind the first of them stand in front of i, and three digits in front of j
-pub record Group (first : ℕ) (p : List ℕ) (i j : ℕ) : Type 0 where
+-- three digit places, and a comma or a point behind the first of them, stand in front of i, and three digits in front of j
+pub record Group (first : ℕ) (p : List ℕ) (i j separator : ℕ) : Type 0 where
   pub four : 4 ≤ i
   pub three : first + 3 ≤ j
   pub place₁ : isPlace (getD p (i - 4) 0) ≡ true
-  pub separator : getD p (i - 4 + 1) 0 ≡ comma
+  pub between : getD p (i - 4 + 1) 0 ≡ separator
   pub place₂ : isPlace (getD p (i - 4 + 2) 0) ≡ true
   pub place₃ : isPlace (getD p (i - 4 + 3) 0) ≡ true
 

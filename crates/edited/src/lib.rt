@@ -6,9 +6,8 @@ ghost use mathlib.Core.List.{_∷_};
 ghost use Prim.Native.Nat.{ℕ, _+_, _-_, _≤_, _<_};
 ghost use lib.ListN.{length, getD, replicate};
 ghost use Rattle.splice.specs.Splice.{splice};
-ghost use Rattle.digits.specs.Digits.{digits};
 ghost use Rattle.digits.specs.Ends.{room};
-ghost use Rattle.picture.specs.Characters.{nine, isSign};
+ghost use Rattle.picture.specs.Characters.{nine, comma, point, isSign};
 ghost use Rattle.file.specs.Limits.{pictureMax};
 ghost use Rattle.edited.specs.Edited.{filler, byteOf, signByte, hasSign, pictured, picturePrint};
 ghost use Rattle.edited.specs.Reached.{Worked, Within, Moves, Group, fourPut};
@@ -68,7 +67,7 @@ struct Spot {
 // Puts the whole item, and gives where its first digit stands: the number is too wide where there are digits in front of that.
 fn put_edited(
     negative: bool,
-    text: &[u8; 32],
+    text: &[u8; ROOM],
     first: usize,
     picture: &[u8],
     at: usize,
@@ -78,7 +77,7 @@ fn put_edited(
     ensures { λ r. ⌜ ((n : ℕ) → Worked n (now (text .entry)) first → Moves (now (picture .entry)) negative n at (length (now (picture .entry))) room (now (out .entry)) 0 r (now (out .exit))) ⌝ }
 {
     let end = put_signs(negative, picture, at, out);
-    let s = put_cents(text, picture, end, at, out);
+    let s = put_cents(text, first, picture, end, at, out);
     let t = put_groups(text, first, picture, s, at, out);
     put_rest(negative, text, first, picture, t, at, out)
 }
@@ -100,15 +99,19 @@ fn put_signs(negative: bool, picture: &[u8], at: usize, out: &mut [u8]) -> usize
     i
 }
 
-// Puts 9.99, the end of most pictures, where it stands in front of i.
-fn put_cents(text: &[u8; 32], picture: &[u8], i: usize, at: usize, out: &mut [u8]) -> Spot
-    requires { ⌜ Within (now picture) at i room (now out) ⌝ }
-    ensures { λ r. ⌜ ((negative : Bool) (n : ℕ) → now (text .entry) ≡ digits room n → Moves (now (picture .entry)) negative n at i room (now (out .entry)) (r .i) (r .j) (now (out .exit))) × Within (now (picture .entry)) at (r .i) (r .j) (now (out .exit)) ⌝ }
+// Puts the end of most pictures, a digit, a point and two more, where it stands in front of i and there are three digits to show.
+fn put_cents(
+    text: &[u8; ROOM],
+    first: usize,
+    picture: &[u8],
+    i: usize,
+    at: usize,
+    out: &mut [u8],
+) -> Spot
+    requires { ⌜ (first ≤ room) × Within (now picture) at i room (now out) ⌝ }
+    ensures { λ r. ⌜ ((negative : Bool) (n : ℕ) → Worked n (now (text .entry)) first → Moves (now (picture .entry)) negative n at i room (now (out .entry)) (r .i) (r .j) (now (out .exit))) × Within (now (picture .entry)) at (r .i) (r .j) (now (out .exit)) ⌝ }
 {
-    if i < 4 {
-        return Spot { i: i, j: ROOM };
-    }
-    if little_endian::number4(picture, i - 4) != 0x39392e39 {
+    if !is_cents(first, picture, i) {
         return Spot { i: i, j: ROOM };
     }
     put_four(text, ROOM - 3, b'.', at + (i - 4), out);
@@ -118,9 +121,21 @@ fn put_cents(text: &[u8; 32], picture: &[u8], i: usize, at: usize, out: &mut [u8
     }
 }
 
+// Whether 9.99 or Z.99 or *.99 stands in front of i, and there are three digits to show.
+fn is_cents(first: usize, picture: &[u8], i: usize) -> bool
+    requires { ⌜ (first ≤ room) × (i ≤ length (now picture)) ⌝ }
+    ensures { λ r. ⌜ (r ≡ true → Group first (now (picture .entry)) i room point) ⌝ }
+{
+    if (i < 4) | (ROOM < first + 3) {
+        return false;
+    }
+    let w = little_endian::number4(picture, i - 4);
+    (w == 0x39392e39) | ((w == 0x39392e5a) | (w == 0x39392e2a))
+}
+
 // Puts groups of three digits with a comma behind the first, as long as there are three to show.
 fn put_groups(
-    text: &[u8; 32],
+    text: &[u8; ROOM],
     first: usize,
     picture: &[u8],
     s: Spot,
@@ -143,7 +158,7 @@ fn put_groups(
 // Whether Z,ZZ or *,** or 9,99 stands in front of i, and there are three digits for it in front of j.
 fn is_group(first: usize, picture: &[u8], i: usize, j: usize) -> bool
     requires { ⌜ (first ≤ room) × (i ≤ length (now picture)) ⌝ }
-    ensures { λ r. ⌜ (r ≡ true → Group first (now (picture .entry)) i j) ⌝ }
+    ensures { λ r. ⌜ (r ≡ true → Group first (now (picture .entry)) i j comma) ⌝ }
 {
     if (i < 4) | (j < first + 3) {
         return false;
@@ -153,7 +168,7 @@ fn is_group(first: usize, picture: &[u8], i: usize, j: usize) -> bool
 }
 
 // Puts a digit, a comma or a point, and the next two digits.
-fn put_four(text: &[u8; 32], j: usize, separator: u8, to: usize, out: &mut [u8])
+fn put_four(text: &[u8; ROOM], j: usize, separator: u8, to: usize, out: &mut [u8])
     requires { ⌜ (j + 3 ≤ room) × (to + 4 ≤ length (now out)) ⌝ }
     ensures { λ _. ⌜ now (out .exit) ≡ fourPut (now (text .entry)) j separator to (now (out .entry)) ⌝ }
 {
@@ -166,7 +181,7 @@ fn put_four(text: &[u8; 32], j: usize, separator: u8, to: usize, out: &mut [u8])
 // Puts what is left, character by character, and gives where its first digit stands.
 fn put_rest(
     negative: bool,
-    text: &[u8; 32],
+    text: &[u8; ROOM],
     first: usize,
     picture: &[u8],
     s: Spot,
@@ -188,7 +203,7 @@ fn put_rest(
 // Puts character number i: a digit, or what stands where no digit is left.
 fn put_one(
     negative: bool,
-    text: &[u8; 32],
+    text: &[u8; ROOM],
     first: usize,
     picture: &[u8],
     i: usize,

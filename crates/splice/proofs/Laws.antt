@@ -91,7 +91,7 @@ pub take-parts : (s : List ℕ) (i j k : ℕ) → take j (drop i s) ++ take k (d
 take-parts s i j k = sym (take-add j k (drop i s) ∙ ap (λ (l : List ℕ). take j (drop i s) ++ take k l) (drop-drop j i s))
 
 -- a write over another that is no longer
-splice-over : (old : List ℕ) (at : ℕ) (xs ys : List ℕ) → length xs ≤ length ys → at ≤ length old → splice (splice old at xs) at ys ≡ splice old at ys
+pub splice-over : (old : List ℕ) (at : ℕ) (xs ys : List ℕ) → length xs ≤ length ys → at ≤ length old → splice (splice old at xs) at ys ≡ splice old at ys
 unfolding splice
 splice-over old at xs ys h l =
     let new = splice old at xs in

@@ -5,7 +5,7 @@ use native.Mathlib.Omega.{arith}
 use borrow.Author.Needs.{needs}
 use borrow.Author.Tests.{ltb-false}
 use lib.Dec.{ltb}
-use Rattle.edited.proofs.Laws.{is-group, or-l-false}
+use Rattle.edited.proofs.Laws.{or-l-false, is-group}
 use Rattle.edited.proofs.is_group.Statement.{statement}
 use Rattle.edited.proofs.is_group.Tie as tie
 
@@ -13,9 +13,9 @@ more : (c : tie.Else1) → 4 ≤ c .before .before .args .i
 more c = let a = c .before .before .args in ltb-false (a .i) 4 (or-l-false (ltb (a .i) 4) (ltb (a .j) (a .first + 3)) (c .if1 .left))
 
 returns-2 : tie.Need-returns-2
-returns-2 c h =
+returns-2 c =
     let a = c .before .before .before .args in
-    is-group (a .first) (a .picture .now) (a .i) (a .j) (c .number4 .result) (c .before .if1 .left) (λ k. c .before .before .shared-slice-known .given k .fits) (c .number4 .ensures .is) h
+    is-group (a .first) (a .picture .now) (a .i) (a .j) (c .number4 .result) (c .before .if1 .left) (λ k. c .before .before .shared-slice-known .given k .fits) (c .number4 .ensures .is)
 
 pub is-group-spec : {M : Type 1} → statement M
 is-group-spec =

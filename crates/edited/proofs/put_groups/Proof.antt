@@ -5,6 +5,7 @@ use Prim.Native.Nat.{ℕ, _+_, _-_, _≤_}
 use native.Mathlib.Omega.{arith}
 use borrow.Author.Needs.{needs}
 use lib.ListN.{length}
+use Rattle.picture.specs.Characters.{comma}
 use Rattle.edited.specs.Reached.{Worked, Within, Moves, Group}
 use Rattle.edited.proofs.Steps.{put-group}
 use Rattle.edited.proofs.put_groups.Statement.{statement}
@@ -18,7 +19,7 @@ abbrev μ-loop : tie.MeasureT-loop
 μ-loop text first picture at out₀ i₀ j₀ out i j = i
 
 -- the group that was found
-found : (c : tie.Then1 Inv-loop μ-loop) → let l = c .before .before in let a = l .before .before .before .args in Group (a .first) (a .picture .now) (l .loop .i) (l .loop .j)
+found : (c : tie.Then1 Inv-loop μ-loop) → let l = c .before .before in let a = l .before .before .before .args in Group (a .first) (a .picture .now) (l .loop .i) (l .loop .j) comma
 found c = c .before .is-group .ensures (c .if1 .taken)
 
 loop-again : tie.Need-loop-again Inv-loop μ-loop
@@ -28,7 +29,7 @@ loop-again c =
     let a = t .before .before .before .before .before .args in
     let w = l .inv .1 in
     let g = found t in (
-      λ negative n k old r. put-group (l .inv .0 negative n k old r) (a .text .now) k g (c .before .before .put-four .ensures),
+      λ negative n k old r. put-group (l .inv .0 negative n k old r) (a .text .now) comma k g refl refl (c .before .before .put-four .ensures),
       record { few = w .few; fits = omega (arith, w .fits); inside = omega (arith, w .inside); most = omega (arith, w .most); enough = omega (arith, w .enough, g .four, g .three) },
       omega (arith, l .inv .2),
     )
