@@ -52,7 +52,7 @@ fn prints_the_example(program: &Path, name: &str, more: &[&str]) {
 #[test]
 fn a_c_program_prints_the_examples() {
     let program = compiled("sheet", &["-lreport_c"], "c_sheet");
-    for name in ["whole_run", "day_sheet"] {
+    for name in ["whole_run", "day_sheet", "pictures"] {
         prints_the_example(&program, name, &[]);
     }
 }

@@ -68,7 +68,7 @@ fn accepted_rows(rng: &mut Rng, desc: &[u8]) -> Vec<u8> {
 #[test]
 fn calls_stay_within_the_stack_that_is_told() {
     let program = compiled();
-    for name in ["whole_run", "day_sheet"] {
+    for name in ["whole_run", "day_sheet", "pictures"] {
         let file = |kind: &str| at(&format!("../examples/{name}.{kind}"));
         within_bound(&program, &file("desc"), &file("rows"));
     }

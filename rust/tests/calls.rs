@@ -15,7 +15,7 @@ fn refused(number: u64, extra: u64) -> Answer {
 
 #[test]
 fn prints_the_examples() {
-    for (name, length) in [("whole_run", 6), ("day_sheet", 67)] {
+    for (name, length) in [("whole_run", 6), ("day_sheet", 67), ("pictures", 38)] {
         let [description, rows, wanted] =
             ["desc", "rows", "sheet"].map(|kind| example(&format!("{name}.{kind}")));
         let at = description.len() - 4;

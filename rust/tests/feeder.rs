@@ -34,7 +34,7 @@ fn begun(description: &[u8]) -> Feeder {
 
 #[test]
 fn prints_the_examples_from_pieces_of_any_size() {
-    for name in ["whole_run", "day_sheet"] {
+    for name in ["whole_run", "day_sheet", "pictures"] {
         let [description, rows, wanted] =
             ["desc", "rows", "sheet"].map(|kind| read(&format!("{name}.{kind}")));
         for size in [1, 5, 6, 7, 66, 67, 68, 1000, LONGEST_CHUNK] {
@@ -169,7 +169,7 @@ fn ends_with(output: &Output, code: i32, message: &str, lines: &[u8]) {
 
 #[test]
 fn the_program_prints_the_examples() {
-    for name in ["whole_run", "day_sheet"] {
+    for name in ["whole_run", "day_sheet", "pictures"] {
         let rows = read(&format!("{name}.rows"));
         let pieces: Vec<&[u8]> = rows.chunks(501).collect();
         let output = fed_to_the_program(&example(&format!("{name}.desc")), &pieces);
