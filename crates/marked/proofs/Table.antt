@@ -21,7 +21,8 @@ use Rattle.counters.specs.Counters.{ruleD8}
 use Rattle.pictures.specs.Pictures.{rule9}
 use Rattle.description.specs.declared.Checked.the-variants.{Accepted}
 use Rattle.description.specs.Check.{from9, from8, from7, from6, from5, from4, from3, judged, checked}
-use Rattle.number.specs.Value.{numberOf, valueFrom}
+use Rattle.number.specs.Value.{allDigits, isNumber, numberOf, valueFrom}
+use Rattle.rows.specs.Fields.{wellFormed, firstMalformed}
 use Rattle.rows.specs.Breaks.{controlDiffers, breakLevel}
 use Rattle.figures.specs.Number.{digits, placesIn, places, fraction, plain, signedText, alignRight, numberField}
 use Rattle.place.specs.Place.{lands, followed}
@@ -40,7 +41,7 @@ unfolding description bytesOfNumbers sumBelow listBelow joinBelow versions.secti
 sections-read = refl
 
 cases-wanted : cases (headOf description) sections ≡ wanted
-unfolding cases wanted description bytesOfNumbers versions.sections versions.entrySize num sumBelow firstBelow theGroup theDetail span bodyOf frameOf lands followed dueOf pageChange pageChanges placedLines placed placeGroup placeAll numberOf valueFrom controlDiffers breakLevel digits placesIn places fraction plain signedText alignRight numberField
+unfolding cases wanted description bytesOfNumbers versions.sections versions.entrySize num sumBelow firstBelow theGroup theDetail span bodyOf frameOf lands followed dueOf pageChange pageChanges placedLines placed placeGroup placeAll allDigits isNumber numberOf valueFrom wellFormed firstMalformed controlDiffers breakLevel digits placesIn places fraction plain signedText alignRight numberField
 cases-wanted = refl
 
 pub marked : given ≡ wanted

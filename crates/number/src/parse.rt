@@ -1,4 +1,4 @@
-// The value of a number field: a sign, and digits.
+// The value of a number field: a sign or a blank, and digits.
 ghost use mathlib.Core.Path.{_≡_};
 ghost use mathlib.Core.Bool.{true};
 ghost use Prim.Native.Nat.{_≤_};
@@ -6,11 +6,11 @@ ghost use lib.ListN.{length, drop};
 ghost use Rattle.number.specs.Value.{isSign, isDigit, allDigits, isNumber, valueFrom, numberOf, Value};
 use crate::signed;
 
-// Whether b is '+' or '-'.
+// Whether b is '+' or '-', or the blank that stands for '+'.
 fn is_sign(b: u8) -> bool
     ensures { λ r. ⌜ r ≡ isSign b ⌝ }
 {
-    (b == b'+') | (b == b'-')
+    (b == b'+') | (b == b'-') | (b == b' ')
 }
 
 // Whether b is '0' to '9'.
@@ -58,7 +58,7 @@ fn digits_value(s: &[u8], from: usize) -> u64
     value
 }
 
-// The value of a number field.
+// The value of a number field: only '-' makes it negative.
 pub fn number(s: &[u8]) -> i64
     requires { ⌜ (length (now s) ≤ 18) × (isNumber (now s) ≡ true) ⌝ }
     ensures { λ r. ⌜ Value (numberOf (now (s .entry))) r ⌝ }
