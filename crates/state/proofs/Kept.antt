@@ -23,7 +23,7 @@ use Rattle.state.specs.State.{flagCount, keptSize}
 use Rattle.state.specs.Kept.{paddedRow, flagsSet}
 
 -- a test of every index goes by its test below the bound alone
-all-same : (p q : ℕ → Bool) (n : ℕ) → ((i : ℕ) → i < n → p i ≡ q i) → allBelow n p ≡ allBelow n q
+pub all-same : (p q : ℕ → Bool) (n : ℕ) → ((i : ℕ) → i < n → p i ≡ q i) → allBelow n p ≡ allBelow n q
 unfolding allBelow
 all-same p q zero h = refl
 all-same p q (suc n) h = rw (all-same p q n (λ i l. h i (omega arith)), h n (omega arith)) refl
@@ -57,7 +57,7 @@ padded-zero row i l m =
 
 module _ {h : Head} {t : List ℕ} (row : List ℕ) (f : FieldsIn h t) (l : h .reclen ≤ length row) where
   -- a field inside the record is kept as it was
-  in-row : (i : ℕ) → i < h .fields → fieldPart t (paddedRow row) i ≡ fieldPart t row i
+  pub in-row : (i : ℕ) → i < h .fields → fieldPart t (paddedRow row) i ≡ fieldPart t row i
   in-row i m =
       let o = fieldOffset t i in
       let w = fieldWidth t i in
