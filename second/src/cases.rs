@@ -15,6 +15,7 @@ mod rule_9;
 mod sample;
 mod sequence;
 mod shown;
+mod signs;
 mod states;
 mod tally;
 mod valid;
@@ -107,8 +108,8 @@ const HELP: &str = "second cases: random cases against the second program
   --case N          show one case: its description, its calls and their answers
 
 Prints how often each rule and refusal was reached. Ends with 1 where one was not reached, where a
-clause of rule 9 or a feature of pictures was not reached 100 times, or where an answer was not what
-any implementation must give; else with 0.
+clause of rule 9 or a feature of pictures was not reached 100 times, one of signs 100 or 25 times, or
+where an answer was not what any implementation must give; else with 0.
 ";
 
 #[derive(Clone, Copy, Debug)]
@@ -392,6 +393,37 @@ mod tests {
         assert_eq!(keeps(steps.draft(), &step, &answer, &output), Ok(()));
         answer.state.page += 1;
         assert!(keeps(steps.draft(), &step, &answer, &output).is_err());
+    }
+
+    #[test]
+    fn a_kept_record_that_takes_the_newer_bytes_is_seen() {
+        let mut rng = Rng::new(11);
+        let mut seen = 0;
+        while seen < 50 {
+            let desc = accepted_description(&mut rng);
+            let mut steps = sequence(&mut rng, &desc, 20);
+            let mut last = None;
+            while let Some(step) = steps.step(last.as_ref()) {
+                let (answer, output) = play(&desc, &step);
+                seen += usize::from(keep_the_newer_bytes(steps.draft(), &step, &answer, &output));
+                last = Some(answer);
+            }
+        }
+    }
+
+    /// Keeps the row instead of an equal one written otherwise, if it is one, and sees that this is noticed.
+    fn keep_the_newer_bytes(draft: Result<&Draft, u8>, step: &Step, answer: &Answer, output: &[u8]) -> bool {
+        let (Ok(draft), Call::Generate { record, .. }, 0) = (draft, &step.call, answer.number) else {
+            return false;
+        };
+        let kept = &answer.state.kept[..record.len()];
+        if signs::turned(draft, draft.controls.len(), kept, record).is_empty() {
+            return false;
+        }
+        let mut wrong = answer.clone();
+        wrong.state.keep(record);
+        assert!(keeps(Ok(draft), step, &wrong, output).is_err());
+        true
     }
 
     #[test]

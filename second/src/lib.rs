@@ -1,5 +1,5 @@
-//! The second program: document 01, and requests of document 02, implemented plainly, to compare with
-//! the first.
+//! The second program: document 01, and requests of document 02, implemented plainly, to compare
+//! with the first.
 //!
 //! description bytes -> `description` -> tables; state -> `state` -> rules; a call -> `report`:
 //! which groups are due (`turns`), where they land (`place`), what they print (`print`). `feeder` makes calls of bytes cut

@@ -10,7 +10,7 @@ use second::state::State;
 use second::{cases, description, source};
 
 const USAGE: &str = "\
-second: document 01, and R-1, R-2 and R-4 of document 02, a second time, on its own
+second: document 01, and R-1, R-2, R-4 and R-5 of document 02, a second time, on its own
 
 usage: second COMMAND ...
 

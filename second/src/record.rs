@@ -7,10 +7,10 @@ pub fn malformed_field(d: &Description, record: &[u8]) -> Option<usize> {
     d.fields.iter().position(|field| !well_formed(field, bytes_of(field, record)))
 }
 
-/// "Text bytes are 32 to 126. A number is '+' or '-' and digits."
+/// "Text bytes are 32 to 126. A number is '+' or '-' and digits." R-5: "take blank as plus in every number field".
 fn well_formed(field: &Field, bytes: &[u8]) -> bool {
     if field.kind == NUMBER {
-        matches!(bytes[0], b'+' | b'-') && bytes[1..].iter().all(u8::is_ascii_digit)
+        matches!(bytes[0], b'+' | b'-' | b' ') && bytes[1..].iter().all(u8::is_ascii_digit)
     } else {
         bytes.iter().all(|byte| (32..=126).contains(byte))
     }
@@ -22,7 +22,7 @@ pub fn bytes_of<'a>(field: &Field, record: &'a [u8]) -> &'a [u8] {
     &record[offset..offset + usize::from(field.width)]
 }
 
-/// The value of a number field's bytes; at most 17 digits.
+/// The value of a number field's bytes; at most 17 digits. A blank in front is a plus.
 pub fn value(bytes: &[u8]) -> i64 {
     let size = bytes[1..].iter().fold(0, |size, digit| size * 10 + i64::from(digit - b'0'));
     if bytes[0] == b'-' {

@@ -285,6 +285,18 @@ fn what_was_printed_before_a_refused_row_of_feed_stands() {
 }
 
 #[test]
+fn a_blank_for_a_plus_gives_the_same_sheet() {
+    let path = whole_run_directory("blank");
+    let rows = b"AA 005AA+007BB-002BB 009";
+    std::fs::write(path.join("r"), rows).unwrap();
+    let sheet = (0, sheet_bytes(WHOLE_RUN_SHEET), String::new());
+    assert_eq!(run(&path, &["print", "d", "r"]), sheet);
+    for n in ["1", "2", "3", "4096"] {
+        assert_eq!(run_with(&path, &["feed", "d", "-n", n], rows), sheet);
+    }
+}
+
+#[test]
 fn build_writes_a_description_or_nothing() {
     let path = directory("build");
     let good = "page 10 heading 1 first 3 last 6 footing 8\nwidth 1\nrecord 1\ngroup DE\n";

@@ -7,6 +7,7 @@ use second::builder::Builder;
 use second::cases::{accepted_description, Rng};
 use second::description::*;
 use second::feeder::{bytes, discard, feed, initiate, terminate, Answer, Feeder, FEEDER_BYTES};
+use second::record::bytes_of;
 use second::report::{self, generate};
 use second::state::{State, IDLE, RUNNING, STARTED, SUM_LIMIT};
 
@@ -288,6 +289,59 @@ fn pieces_of_any_one_length_print_the_same() {
 }
 
 #[test]
+fn a_blank_for_a_plus_prints_the_same_however_cut() {
+    let bytes = b"AA 005AA+007BB-002BB 009";
+    for first in 1..bytes.len() - 1 {
+        for second in first + 1..bytes.len() {
+            is_the_whole_run(&[&bytes[..first], &bytes[first..second], &bytes[second..]]);
+        }
+    }
+}
+
+#[test]
+fn an_unfinished_records_blank_is_kept_as_it_came() {
+    let desc = whole_run().bytes();
+    // (kept, chunk, kept afterwards)
+    for (kept, chunk, left) in
+        [(&b"BB"[..], &b" "[..], &b"BB "[..]), (b"BB ", b"00", b"BB 00"), (b"B", b"B ", b"BB ")]
+    {
+        let feeder = feeder_in(running(), kept);
+        let (answer, _) = fed(&desc, &feeder, chunk, 0);
+        let next = keeping(&feeder, left);
+        assert_eq!(answer, Answer { number: 0, extra: 0, taken: chunk.len(), printed: 0, feeder: next });
+    }
+    // The finished record is the report's kept one at a break, its blank too.
+    let (answer, _) = fed(&desc, &feeder_in(running(), b"CC "), b"009", PLENTY);
+    assert_eq!((answer.number, &answer.feeder.state.kept[..7]), (0, &b"CC 009\0"[..]));
+}
+
+#[test]
+fn rows_of_equal_values_written_otherwise_make_no_break() {
+    let mut b = marked_page(2, 4);
+    let number = b.number(0, 4);
+    b.control(number);
+    b.group(DE, 0);
+    b.group(CF, 0);
+    b.line(LINE_RELATIVE, 1);
+    b.literal(1, "CF");
+    let desc = b.bytes();
+    for (bytes, kept, breaks) in [
+        (b"+007 007+007", b"+007", false),
+        (b" 007+007 007", b" 007", false),
+        (b"-000 000+000", b"-000", false),
+        (b" 000-000+000", b" 000", false),
+        (b"+007-007-007", b"-007", true),
+        (b"-007-007 007", b" 007", true),
+    ] {
+        for length in 1..=bytes.len() {
+            let (feeder, sheet) = fed_in_pieces(&desc, bytes.chunks(length));
+            assert_eq!(feeder.state.kept[..4], *kept, "{}", bytes.escape_ascii());
+            assert_eq!(!sheet.is_empty(), breaks, "{}", bytes.escape_ascii());
+        }
+    }
+}
+
+#[test]
 fn the_day_sheet_comes_out_of_random_pieces() {
     let desc = include_bytes!("../../examples/day_sheet.desc");
     let rows = include_bytes!("../../examples/day_sheet.rows");
@@ -356,6 +410,17 @@ fn a_refused_first_row_begun_earlier_keeps_its_earlier_bytes() {
     let feeder = feeder_in(running(), b"BB+");
     assert_eq!(fed(&desc, &feeder, b"00xBB+001BB", PLENTY).0, refusal(6, 1, &feeder));
     assert_eq!(fed(&desc, &feeder, b"009", 43).0, refusal(9, 0, &feeder));
+}
+
+#[test]
+fn a_row_that_r_5_does_not_take_is_refused_however_cut() {
+    let desc = whole_run().bytes();
+    for row in [b"BB    ", b"BB  09", b"BB +09", b"BB -09", b"BB+ 09", b"BB- 09", b"BB009 ", b"BB0009"] {
+        for kept in 0..6 {
+            let feeder = feeder_in(running(), &row[..kept]);
+            assert_eq!(fed(&desc, &feeder, &row[kept..], PLENTY).0, refusal(6, 1, &feeder));
+        }
+    }
 }
 
 #[test]
@@ -779,19 +844,40 @@ fn by_the_rows_it_finishes(desc: &[u8], feeder: &Feeder, chunk: &[u8], out: &mut
     Answer { number: 0, extra: 0, taken: chunk.len(), printed, feeder: next }
 }
 
-/// A record, most often well formed, with few values so that rows without a break come too.
+/// A record, most often well formed, with few values so that rows without a break come too. Its numbers begin with '+',
+/// '-' or a blank.
 fn record(rng: &mut Rng, d: &Description) -> Vec<u8> {
     let mut record: Vec<u8> = (0..d.r).map(|_| rng.pick(b"AAAAAAAAB")).collect();
     for field in d.fields.iter().filter(|field| field.kind == NUMBER) {
         let bytes = &mut record[usize::from(field.offset)..][..usize::from(field.width)];
         bytes.iter_mut().for_each(|byte| *byte = rng.pick(b"00000009"));
-        bytes[0] = rng.pick(b"+++-");
+        bytes[0] = rng.pick(b"++  -");
     }
     if rng.chance(5) {
         let at = rng.below(record.len());
-        record[at] = rng.byte();
+        let any = rng.byte();
+        // A blank, a sign or a digit in its wrong place.
+        record[at] = rng.pick(&[any, b' ', b'+', b'0']);
     }
     record
+}
+
+/// A number of the record begins with a blank.
+fn has_blank(d: &Description, record: &[u8]) -> bool {
+    let mut numbers = d.fields.iter().filter(|field| field.kind == NUMBER);
+    numbers.any(|field| record[usize::from(field.offset)] == b' ')
+}
+
+/// A control has the same digits in both records, but a blank in one and a '+' in the other.
+fn is_written_otherwise(d: &Description, kept: &[u8], record: &[u8]) -> bool {
+    let mut controls = d.controls.iter().filter(|&&control| control != FINAL);
+    controls.any(|&control| {
+        let field = &d.fields[usize::from(control)];
+        let (old, new) = (bytes_of(field, kept), bytes_of(field, record));
+        field.kind == NUMBER
+            && matches!((old[0], new[0]), (b' ', b'+') | (b'+', b' '))
+            && old[1..] == new[1..]
+    })
 }
 
 #[test]
@@ -799,6 +885,8 @@ fn random_feeds_do_what_the_rows_they_finish_do() {
     let mut rng = Rng::new(13);
     // Accepted with and without a row finished, refused at the first row with and without bytes kept, refused later.
     let mut seen = [0; 5];
+    // Of the last row finished: with a blank for a plus, equal to the kept one but written otherwise. Refused by 6.
+    let mut signs = [0; 3];
     for _ in 0..400 {
         let desc = accepted_description(&mut rng);
         let d = check(&desc).unwrap();
@@ -823,9 +911,16 @@ fn random_feeds_do_what_the_rows_they_finish_do() {
                 (_, 0) => 2 + usize::from(kept == 0),
                 _ => 4,
             }] += 1;
+            let line = [&feeder.kept[..kept], chunk].concat();
+            if let Some(row) = line.chunks_exact(r).last().filter(|_| answer.number == 0) {
+                signs[0] += u32::from(has_blank(&d, row));
+                signs[1] += u32::from(is_written_otherwise(&d, &answer.feeder.state.kept[..r], row));
+            }
+            signs[2] += u32::from(answer.number == 6);
             feeder =
                 if answer.number != 0 && rng.chance(50) { discard(&answer.feeder) } else { answer.feeder };
         }
     }
     assert!(seen.iter().all(|&times| times >= 100), "{seen:?}");
+    assert!(signs.iter().all(|&times| times >= 50), "{signs:?}");
 }

@@ -10,8 +10,8 @@ enum Case {
     /// A one-line relative detail, step 1, with this next group, on a page seen. From (line, saved) it prints
     /// at (pages on, line) and leaves (line, saved).
     Detail { next: (u16, u16), from: (u16, u16), prints: (u32, u32), leaves: (u16, u16) },
-    /// A number control's bytes, then those of the next row: whether there is a break.
-    Break { kept: &'static [u8], then: &'static [u8], breaks: bool },
+    /// Pairs of a number control's bytes and those of the next row: whether there is a break.
+    Break { pairs: [[&'static [u8]; 2]; 2], breaks: bool },
     /// A value with decimals, printed in a width.
     Number { value: i64, decimals: u16, width: u16, prints: &'static str },
 }
@@ -30,7 +30,8 @@ const MARKED: [(&str, Case); 12] = [
     ("M7", Detail { next: (NEXT_ABSOLUTE, 5), from: (4, 0), prints: (0, 5), leaves: (8, 5) }),
     ("M8", Detail { next: NONE, from: (8, 5), prints: (1, 6), leaves: (6, 0) }),
     ("M9", Detail { next: NONE, from: (8, 6), prints: (2, 3), leaves: (3, 0) }),
-    ("M10", Break { kept: b"-000", then: b"+000", breaks: false }),
+    // "+000" after "-000"; R-5: "+007" and " 007", "that pair joins case M10".
+    ("M10", Break { pairs: [[b"-000", b"+000"], [b"+007", b" 007"]], breaks: false }),
     ("M11", Number { value: 5, decimals: 2, width: 6, prints: "  0.05" }),
     ("M12", Number { value: -123456, decimals: 0, width: 6, prints: "******" }),
 ];
@@ -40,7 +41,13 @@ fn the_marked_cases_hold() {
     for (name, case) in MARKED {
         match case {
             Detail { next, from, prints, leaves } => detail(name, next, from, prints, leaves),
-            Break { kept, then, breaks } => control_break(name, kept, then, breaks),
+            Break { pairs, breaks } => {
+                // Equal whichever comes first.
+                for [one, other] in pairs {
+                    control_break(name, one, other, breaks);
+                    control_break(name, other, one, breaks);
+                }
+            }
             Number { value, decimals, width, prints } => number(name, value, decimals, width, prints),
         }
     }
@@ -69,6 +76,8 @@ fn control_break(name: &str, kept: &[u8], then: &[u8], breaks: bool) {
     let mut run = Run::begin(&b.bytes());
     run.generate(0, kept).generate(0, then);
     assert_eq!(!run.sheet.is_empty(), breaks, "{name}");
+    // "the kept record keeps the older bytes".
+    assert_eq!(&run.state.kept[..4], if breaks { then } else { kept }, "{name}");
 }
 
 fn number(name: &str, value: i64, decimals: u16, width: u16, prints: &str) {

@@ -83,6 +83,12 @@ const TABLE: &[(&str, &str, &str)] = &[
     ("ZZ9-", "-000", "__0_"),
     ("ZZZ-", "-000", "____"),
     ("ZZ9", "-000", "__0"),
+    // " 007" is "+007".
+    ("ZZ9", " 007", "__7"),
+    ("ZZ9CR", " 007", "__7__"),
+    ("ZZ9-", " 000", "__0_"),
+    ("ZZZ", " 000", "___"),
+    ("**9", " 1000", "***"),
     // A negative number without a sign.
     ("ZZ9", "-001", "***"),
     ("999", "-999", "***"),
@@ -131,6 +137,13 @@ const TABLE: &[(&str, &str, &str)] = &[
 fn the_table() {
     for &(text, field, expected) in TABLE {
         assert_eq!(printed(text, field), expected, "{field} through {text}");
+    }
+}
+
+#[test]
+fn a_blank_prints_what_a_plus_prints() {
+    for &(text, field, expected) in TABLE {
+        assert_eq!(printed(text, &field.replace('+', " ")), expected, "{field} through {text}");
     }
 }
 

@@ -157,13 +157,96 @@ fn refusal_6_gives_the_lowest_field() {
         (b"\x1fB+009", 0),
         (b"B\x7f+009", 0),
         (b"\x80B009 ", 0),
-        (b"BB 009", 1),
+        (b"BB  09", 1),
         (b"BB+0-9", 1),
         (b"BB0009", 1),
     ] {
         let mut call = Call::new();
         call.record = record.to_vec();
         call.refused(6, field);
+    }
+}
+
+/// Whether these bytes are a number, as document 01 and R-5 have it.
+fn is_number(bytes: &[u8]) -> bool {
+    b"+- ".contains(&bytes[0]) && bytes[1..].iter().all(|byte| b"0123456789".contains(byte))
+}
+
+#[test]
+fn a_blank_is_a_plus() {
+    // "Refusal 6 narrows": the row that it was given to prints what the row with '+' prints.
+    let with_plus = Call::new();
+    let with_blank = Call { record: b"BB 009".to_vec(), ..Call::new() };
+    assert_eq!(with_blank.make(), with_plus.make());
+    // Every refusal is given to it too.
+    for ((deserve, extra), number) in DESERVE.into_iter().zip(1..) {
+        let mut call = Call { record: b"BB 009".to_vec(), ..Call::new() };
+        deserve(&mut call);
+        call.refused(number, extra);
+    }
+}
+
+#[test]
+fn refusal_6_tries_every_byte_of_a_number() {
+    for sign in *b"+- " {
+        for (at, byte) in (2..6).flat_map(|at| (0..=255).map(move |byte| (at, byte))) {
+            let mut call = Call::new();
+            call.record[2] = sign;
+            call.record[at] = byte;
+            // The kept amount is neither a control nor printed: any will do.
+            let mut state = call.state.clone();
+            state.keep(&call.record);
+            let kept = Call { state, record: b"BB+009".to_vec(), ..Call::new() };
+            if is_number(&call.record[2..]) {
+                assert_eq!((call.make().0.number, kept.make().0.number), (0, 0));
+            } else {
+                call.refused(6, 1);
+                kept.refused(2, 0);
+            }
+        }
+    }
+}
+
+/// What tills might send too; R-5 takes a blank only where the '+' stood.
+const NO_NUMBERS: [&str; 14] = [
+    "    ", "  09", "   9", "  +9", "  -9", " +09", " -09", "+ 09", "- 09", "009+", "009 ", "009-", "0009",
+    "\t009",
+];
+
+#[test]
+fn a_blank_is_no_digit_and_does_not_move_a_sign() {
+    for number in NO_NUMBERS {
+        let mut call = Call::new();
+        call.record[2..].copy_from_slice(number.as_bytes());
+        call.refused(6, 1);
+        let mut call = Call::new();
+        call.state.kept[2..6].copy_from_slice(number.as_bytes());
+        call.refused(2, 0);
+    }
+}
+
+#[test]
+fn refusal_6_passes_over_a_blank_for_a_plus() {
+    // Three numbers, used as a control, as an addend and not at all; a text at the end.
+    let mut b = marked_page(4, 10);
+    let fields = [b.number(0, 3), b.number(3, 3), b.number(6, 3), b.text(9, 1)];
+    b.control(fields[0]);
+    b.group(DE, 0);
+    let cf = b.group(CF, 0);
+    b.counter(cf, 0);
+    b.add_field(fields[1], 1);
+    let desc = b.bytes();
+    for (record, number, field) in [
+        (" 01 02 03x", 0, 0),
+        (" 01 02 03\x7f", 6, 3),
+        (" 01 02  3x", 6, 2),
+        (" 01 02   \x7f", 6, 2),
+        (" 01  2 03x", 6, 1),
+        ("  1 02  3x", 6, 0),
+        ("+01+02 03x", 0, 0),
+    ] {
+        let answer = generate(&desc, &State::started(), 0, record.as_bytes(), &mut []);
+        assert_eq!((answer.number, answer.extra), (number, field), "{record}");
     }
 }
 

@@ -283,16 +283,114 @@ fn a_number_control_compares_by_value() {
     b.control(field);
     b.group(DE, 0);
     says(&mut b, CF, 0, LINE_RELATIVE, 1, "CF");
-    for (then, breaks) in [(b"+012", false), (b"-012", true), (b"+013", true), (b"+120", true)] {
+    let rows = [
+        ("+012", "+012", false),
+        ("+012", "-012", true),
+        ("+012", "+013", true),
+        ("+012", "+120", true),
+        ("-012", "-012", false),
+        // "take blank as plus".
+        (" 012", " 012", false),
+        ("+012", " 012", false),
+        (" 012", "+012", false),
+        ("-012", " 012", true),
+        (" 012", "-012", true),
+        ("+012", " 013", true),
+        (" 012", "+013", true),
+        (" 012", " 120", true),
+        // Zeros of any sign.
+        (" 000", "+000", false),
+        ("+000", " 000", false),
+        (" 000", "-000", false),
+        ("-000", " 000", false),
+        ("-000", " 001", true),
+    ];
+    for (first, then, breaks) in rows {
         let mut run = Run::begin(&b.bytes());
-        run.generate(0, b"+012").generate(0, then);
-        assert_eq!(!run.sheet.is_empty(), breaks);
+        run.generate(0, first.as_bytes()).generate(0, then.as_bytes());
+        assert_eq!(!run.sheet.is_empty(), breaks, "{first}, then {then}");
     }
     // Text compares by bytes.
     b.tables.fields[0].kind = TEXT;
+    for (first, then) in [(b"-000", b"+000"), (b"+007", b" 007"), (b" 007", b"+007")] {
+        let mut run = Run::begin(&b.bytes());
+        run.generate(0, first).generate(0, then);
+        assert_eq!(printed(&run), ["1/3 CF"]);
+    }
+}
+
+#[test]
+fn the_kept_record_keeps_the_older_bytes() {
+    let mut b = Builder::new(60, 1, 3, 50, 50, 4, 5);
+    let (number, _) = (b.number(0, 4), b.text(4, 1));
+    b.control(number);
+    b.group(DE, 0);
+    b.group(CF, 0);
+    b.line(LINE_RELATIVE, 1);
+    b.item(item(1, 4, FIELD, number));
     let mut run = Run::begin(&b.bytes());
-    run.generate(0, b"-000").generate(0, b"+000");
-    assert_eq!(printed(&run), ["1/3 CF"]);
+    // (row, the kept record after it)
+    for (row, kept) in [
+        ("+007a", "+007a"),
+        // "equal and make no break, and the kept record keeps the older bytes".
+        (" 007b", "+007a"),
+        ("+007c", "+007a"),
+        // A break keeps the bytes as they come.
+        (" 008d", " 008d"),
+        ("+008e", " 008d"),
+        ("-008f", "-008f"),
+        ("-000g", "-000g"),
+        (" 000h", "-000g"),
+        ("+000i", "-000g"),
+        (" 001j", " 001j"),
+    ] {
+        run.generate(0, row.as_bytes());
+        assert_eq!(String::from_utf8_lossy(&run.state.kept[..6]), format!("{kept}\0"), "after {row}");
+    }
+    run.terminate();
+    assert_eq!(run.state.kept[..6], *b" 001j\0");
+    assert_eq!(printed(&run), ["1/3    7", "1/4    8", "1/5   -8", "1/6    0", "1/7    1"]);
+}
+
+#[test]
+fn a_break_is_found_below_a_control_written_otherwise() {
+    let mut b = marked_page(4, 4);
+    let (first, second) = (b.number(0, 2), b.number(2, 2));
+    b.control(first);
+    b.control(second);
+    b.group(DE, 0);
+    says(&mut b, CF, 0, LINE_RELATIVE, 1, "CF0");
+    says(&mut b, CF, 1, LINE_RELATIVE, 1, "CF1");
+    let both = ["1/3 CF1", "1/4 CF0"];
+    for (then, lines) in [(" 1 2", &both[..0]), (" 1+3", &both[..1]), (" 1-2", &both[..1]), ("-1 2", &both)] {
+        let mut run = Run::begin(&b.bytes());
+        run.generate(0, b"+1+2").generate(0, then.as_bytes());
+        assert_eq!(printed(&run), lines, "{then}");
+    }
+}
+
+#[test]
+fn a_blank_adds_as_a_plus() {
+    // The narrowest and the widest number.
+    let mut b = marked_page(4, 20);
+    let fields = [b.number(0, 2), b.number(2, 18)];
+    b.control(FINAL);
+    b.group(DE, 0);
+    let cf = b.group(CF, 0);
+    for field in fields {
+        b.counter(cf, 0);
+        b.add_field(field, 1);
+    }
+    let mut run = Run::begin(&b.bytes());
+    for (row, sums) in [
+        (" 9 99999999999999999", [9, 99_999_999_999_999_999]),
+        ("+1-99999999999999999", [10, 0]),
+        (" 0 00000000000000000", [10, 0]),
+        ("-3 00000000000000007", [7, 7]),
+    ] {
+        run.generate(0, row.as_bytes());
+        assert_eq!(run.state.sums[..2], sums, "after {row}");
+    }
 }
 
 #[test]
@@ -582,7 +680,7 @@ fn a_group_without_lines_changes_nothing() {
 #[test]
 fn items_print_as_told() {
     // (the field's bytes, item width, decimals, printed)
-    let rows: [(&[u8], u16, u16, &str); 14] = [
+    let rows: [(&[u8], u16, u16, &str); 20] = [
         (b"+00000", 6, 0, "     0"),
         (b"-00000", 6, 0, "     0"),
         (b"-00000", 6, 2, "  0.00"),
@@ -597,6 +695,13 @@ fn items_print_as_told() {
         (b"+12345", 6, 4, "1.2345"),
         (b"+00012", 6, 1, "   1.2"),
         (b"-99999", 7, 1, "-9999.9"),
+        // "take blank as plus".
+        (b" 00000", 6, 0, "     0"),
+        (b" 00005", 6, 2, "  0.05"),
+        (b" 00012", 2, 0, "12"),
+        (b" 00012", 1, 0, "*"),
+        (b" 12345", 6, 4, "1.2345"),
+        (b" 99999", 5, 0, "99999"),
     ];
     for (bytes, width, decimals, expected) in rows {
         let mut b = marked_page(width, 6);

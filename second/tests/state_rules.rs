@@ -146,6 +146,13 @@ fn running_has_its_own_rules() {
             ("text from 32", |s| s.kept[0] = 32, |s| s.kept[0] = 31),
             ("text to 126", |s| s.kept[1] = 126, |s| s.kept[1] = 127),
             ("sign", |s| s.kept[2] = b'-', |s| s.kept[2] = b'0'),
+            // "take blank as plus in every number field", of the kept record too.
+            ("blank for a plus", |s| s.kept[2] = b' ', |s| s.kept[2] = b'\t'),
+            ("one blank", |s| s.keep(b"AA 001 "), |s| s.keep(b"AA  01 ")),
+            ("blank and digits", |s| s.keep(b"AA 000 "), |s| s.keep(b"AA    ")),
+            ("no sign behind a blank", |s| s.keep(b"AA 999 "), |s| s.keep(b"AA +01 ")),
+            ("no blank behind a sign", |s| s.keep(b"AA-001 "), |s| s.keep(b"AA- 01 ")),
+            ("no blank behind digits", |s| s.keep(b"AA+001 "), |s| s.keep(b"AA+01  ")),
             ("digits from 0", |s| s.kept[3] = b'0', |s| s.kept[3] = b'/'),
             ("digits to 9", |s| s.kept[5] = b'9', |s| s.kept[5] = b':'),
             ("bytes in no field, then zeros", |s| s.kept[6] = 255, |s| s.kept[7] = 32),

@@ -3,14 +3,15 @@
 use super::draft::{Block, Draft, Section};
 use super::sequence::{Call, Step, MANNERS};
 use super::shown::{self, Shown};
-use super::states::DAMAGES;
+use super::signs::{self, Turned};
+use super::states::{DAMAGES, KEPT_RECORD};
 use super::{broken, keep, play, rows, rule_9, sample, walk};
 use crate::description::{
-    ADD_COUNTER, ADD_FIELD, CF, CH, DE, FIELD, FINAL, LINE_ABSOLUTE, LINE_COUNTER, LINE_NEXT_PAGE,
+    Field, ADD_COUNTER, ADD_FIELD, CF, CH, DE, FIELD, FINAL, LINE_ABSOLUTE, LINE_COUNTER, LINE_NEXT_PAGE,
     LINE_RELATIVE, NUMBER, PAGE_COUNTER, PF, PH, RF, RH, SUM, TEXT,
 };
 use crate::report::Answer;
-use crate::state::STARTED;
+use crate::state::{RUNNING, STARTED};
 
 const TYPES: [&str; 7] = ["RH", "PH", "CH", "DE", "CF", "PF", "RF"];
 const FIRST_LINES: [&str; 3] = ["absolute", "next page", "relative"];
@@ -80,7 +81,7 @@ const SINGLE: [&str; 55] = [
 ];
 
 /// What should be met of numbers printed through pictures.
-const SHOWN: [&str; 27] = [
+const SHOWN: [&str; 29] = [
     "picture: Z hides a zero",
     "picture: * hides a zero",
     "picture: Z hides a comma",
@@ -96,6 +97,8 @@ const SHOWN: [&str; 27] = [
     "picture: - shown",
     "picture: - blank",
     "picture: -0 is not negative",
+    "picture: blank for a plus",
+    "picture: blank for a plus, CR or - blank",
     "picture: negative without a sign",
     "picture: too wide",
     "picture: too wide by one digit",
@@ -110,7 +113,25 @@ const SHOWN: [&str; 27] = [
     "picture: line counter",
 ];
 
-/// Often enough, in a run of the usual amounts, for what R-4 brought.
+/// What should be met of numbers that have a blank for a plus.
+const BLANKS: [&str; 14] = [
+    "blank for a plus: control",
+    "blank for a plus: added",
+    "blank for a plus: printed",
+    "blank for a plus: in no use",
+    "blank for a plus: zero",
+    "blank for a plus: width 2",
+    "blank for a plus: width 18",
+    "blank for a plus: all of several numbers",
+    "blank for a plus: first GENERATE keeps it",
+    "blank for a plus: break keeps it",
+    "blank for a plus: in the kept record",
+    "blank for a plus: printed from the kept record",
+    "blank for a plus: before the field of refusal 6",
+    "break below a control of another sign",
+];
+
+/// Often enough, in a run of the usual amounts, for what brought.
 const OFTEN: u64 = 100;
 
 /// Faults of D1 that R-4 brought or moved.
@@ -131,7 +152,10 @@ pub fn wanted_often() -> Vec<(String, u64)> {
     names.extend(SHOWN.map(String::from));
     names.extend((0..=4).map(decimals_name));
     names.extend((1..=2).map(version_name));
-    names.into_iter().map(|name| (name, OFTEN)).collect()
+    names.extend(BLANKS.map(String::from));
+    names.extend(signs::all_turned().iter().map(Turned::name));
+    let malformed = signs::NEAR.map(|form| (malformed_name("refusal 6", form), OFTEN / 4));
+    names.into_iter().map(|name| (name, OFTEN)).chain(malformed).collect()
 }
 
 fn decimals_name(decimals: u16) -> String {
@@ -142,6 +166,14 @@ fn version_name(version: u16) -> String {
     format!("version {version}")
 }
 
+fn blank_name(field: usize) -> String {
+    format!("blank for a plus: field {field}")
+}
+
+fn malformed_name(place: &str, form: &str) -> String {
+    format!("{place}: number with {form}")
+}
+
 /// Names of all that should be met.
 pub fn wanted() -> Vec<String> {
     let mut names: Vec<String> = SINGLE.map(String::from).to_vec();
@@ -149,6 +181,8 @@ pub fn wanted() -> Vec<String> {
     names.extend(MANNERS.iter().chain(&DAMAGES).map(|name| format!("step: {name}")));
     names.extend((1..=9).map(|rule| format!("refusal 1 with {rule}")));
     names.extend((0..=10).chain([31]).map(|field| format!("refusal 6 with {field}")));
+    names.extend((0..=10).chain([31]).map(blank_name));
+    names.extend(signs::NEAR.map(|form| malformed_name(KEPT_RECORD, form)));
     names.extend((0..8).map(|level| format!("break at level {level}")));
     names.extend(SECTION_NAMES.map(|section| format!("full section: {section}")));
     names.extend(SECTION_NAMES.iter().filter(|&&it| it != "groups").map(|it| format!("empty section: {it}")));
@@ -371,6 +405,7 @@ pub fn of_call(draft: &Draft, step: &Step, answer: &Answer) -> Vec<String> {
     ]));
     names.extend(landing(draft, step, answer));
     names.extend(picture_features(draft, step));
+    names.extend(blank_features(draft, step));
     names.extend(match walk::detail(draft, step) {
         Some(detail) => indicate_features(draft, step, answer, detail),
         None => end_features(draft, step, answer),
@@ -491,7 +526,9 @@ fn value_features(shown: &Shown) -> Vec<String> {
         (value == 0 && !has_9 && shown.fill() == b'Z', "picture: lone 0 under Z"),
         (value == 0 && !has_9 && shown.fill() == b'*', "picture: lone 0 under *"),
         (value == 0 && has_9, "picture: zero under 9s"),
-        (value == 0 && shown.has_minus && is_signed, "picture: -0 is not negative"),
+        (value == 0 && shown.field_sign == Some(b'-') && is_signed, "picture: -0 is not negative"),
+        (shown.field_sign == Some(b' '), "picture: blank for a plus"),
+        (shown.field_sign == Some(b' ') && is_signed, "picture: blank for a plus, CR or - blank"),
         (value < 0 && !is_signed && !is_wide, "picture: negative without a sign"),
         (is_wide, "picture: too wide"),
         (digits == shown.places() + 1, "picture: too wide by one digit"),
@@ -504,21 +541,98 @@ fn value_features(shown: &Shown) -> Vec<String> {
 fn row_features(draft: &Draft, step: &Step, record: &[u8]) -> Vec<String> {
     let kept = &step.state.kept[..record.len()];
     let level = rows::break_level(draft, kept, record);
+    let all = draft.controls.len();
+    let looked_at = level.map_or(all, |level| level + 1);
+    let turned = signs::turned(draft, looked_at, kept, record);
+    let zeros_differ = turned.iter().any(Turned::is_negative_zero);
+    let above = level.is_some_and(|level| !signs::turned(draft, level, kept, record).is_empty());
     let mut names = holding(&[
         (level.is_none(), "GENERATE without a break"),
-        (level.is_none() && zeros_differ(draft, kept, record), "zeros of both signs"),
+        (level.is_none() && zeros_differ, "zeros of both signs"),
+        (above, "break below a control of another sign"),
         (step.state.seen == 0, "GENERATE on a page not seen"),
     ]);
     names.extend(level.map(|level| format!("break at level {level}")));
+    names.extend(turned.iter().map(Turned::name));
     names
 }
 
-/// A control whose bytes differ; where there is no break, only a zero's sign can.
-fn zeros_differ(draft: &Draft, kept: &[u8], record: &[u8]) -> bool {
-    draft.control_fields().iter().any(|&f| {
-        let field = draft.fields[f as usize];
-        rows::bytes_of(field, kept) != rows::bytes_of(field, record)
-    })
+/// Blanks taken as plus in the record in hand and in the kept one.
+fn blank_features(draft: &Draft, step: &Step) -> Vec<String> {
+    let due = walk::due(draft, step);
+    let (footings, others): (Vec<&Block>, Vec<&Block>) = due.iter().partition(|group| group.kind == CF);
+    let mut names = match &step.call {
+        Call::Generate { d, record } => {
+            let mut names = blanks_in_hand(draft, step, record);
+            let blanks = signs::blanks(draft, record);
+            names.extend(blanks.into_iter().flat_map(|field| blank_uses(draft, *d, &others, field, record)));
+            names
+        }
+        _ => Vec::new(),
+    };
+    if step.state.phase == RUNNING {
+        let blanks = signs::blanks(draft, &step.state.kept);
+        let is_shown = blanks.iter().any(|&field| signs::is_shown(&footings, field));
+        names.extend(holding(&[
+            (!blanks.is_empty(), "blank for a plus: in the kept record"),
+            (is_shown, "blank for a plus: printed from the kept record"),
+        ]));
+    }
+    names
+}
+
+/// Of all the blanks of a record in hand.
+fn blanks_in_hand(draft: &Draft, step: &Step, record: &[u8]) -> Vec<String> {
+    let count = signs::blanks(draft, record).len();
+    let is_first = step.state.phase == STARTED;
+    let keeps = count > 0 && walk::begins(draft, step);
+    holding(&[
+        (count > 1 && count == signs::numbers(draft).len(), "blank for a plus: all of several numbers"),
+        (keeps && is_first, "blank for a plus: first GENERATE keeps it"),
+        (keeps && !is_first, "blank for a plus: break keeps it"),
+    ])
+}
+
+/// Of one of them: what its field is used for, by the groups that read the record in hand and by the sums.
+fn blank_uses(draft: &Draft, d: u32, groups: &[&Block], field: usize, record: &[u8]) -> Vec<String> {
+    let Field { width, .. } = draft.fields[field];
+    let is_control = draft.control_fields().contains(&(field as u16));
+    let is_added = signs::is_added(draft, d, field);
+    let is_shown = signs::is_shown(groups, field);
+    let is_zero = rows::has_digits_of_zero(rows::bytes_of(draft.fields[field], record));
+    let mut names = holding(&[
+        (is_control, "blank for a plus: control"),
+        (is_added, "blank for a plus: added"),
+        (is_shown, "blank for a plus: printed"),
+        (!is_control && !is_added && !is_shown, "blank for a plus: in no use"),
+        (is_zero, "blank for a plus: zero"),
+        (width == 2, "blank for a plus: width 2"),
+        (width == 18, "blank for a plus: width 18"),
+    ]);
+    names.push(blank_name(field));
+    names
+}
+
+/// What a refused record has in its first malformed field, where that is a number.
+pub fn of_refusal_6(draft: &Draft, step: &Step, field: u32) -> Vec<String> {
+    let Call::Generate { record, .. } = &step.call else { return Vec::new() };
+    let field = field as usize;
+    let behind = signs::blanks(draft, record).iter().any(|&blank| blank < field);
+    let mut names = holding(&[(behind, "blank for a plus: before the field of refusal 6")]);
+    names.extend(malformed_number(draft, "refusal 6", field, record));
+    names
+}
+
+/// The same of a state whose kept record is damaged.
+pub fn of_refusal_2(draft: &Draft, step: &Step) -> Option<String> {
+    let kept = &step.state.kept[..draft.record as usize];
+    let field = rows::first_malformed(draft, kept).filter(|_| step.name == KEPT_RECORD)?;
+    malformed_number(draft, KEPT_RECORD, field as usize, kept)
+}
+
+fn malformed_number(draft: &Draft, place: &str, field: usize, record: &[u8]) -> Option<String> {
+    let field = *draft.fields.get(field).filter(|field| field.kind == NUMBER)?;
+    signs::near(rows::bytes_of(field, record)).map(|form| malformed_name(place, form))
 }
 
 /// Where the only body group with lines landed, if just one was due.

@@ -57,7 +57,7 @@ fn accepted(draft: &Draft, step: &Step, answer: &Answer, output: &[u8]) -> Resul
     must(answer.count / line <= most_lines(draft), "more lines than a call can print")?;
     match &step.call {
         Call::Initiate => initiated(answer)?,
-        Call::Generate { record, .. } => generated(step, record, answer)?,
+        Call::Generate { record, .. } => generated(draft, step, record, answer)?,
         Call::Terminate => terminated(step, answer)?,
     }
     flags(draft, step, answer)?;
@@ -70,13 +70,21 @@ fn initiated(answer: &Answer) -> Result<(), String> {
     must(answer.state == State { phase: STARTED, ..State::fresh() }, "INITIATE gives another state")
 }
 
-fn generated(step: &Step, record: &[u8], answer: &Answer) -> Result<(), String> {
+fn generated(draft: &Draft, step: &Step, record: &[u8], answer: &Answer) -> Result<(), String> {
     must(answer.state.phase == RUNNING, "GENERATE does not give running")?;
     must(answer.state.page >= step.state.page, "the page falls")?;
+    must(answer.state.kept == kept(draft, step, record), "another record is kept than the one due")
+}
+
+/// The first row and a break keep the record; without a break the older bytes stay, also where equal values are written
+/// otherwise.
+fn kept(draft: &Draft, step: &Step, record: &[u8]) -> [u8; 256] {
+    if !walk::begins(draft, step) {
+        return step.state.kept;
+    }
     let mut kept = [0; 256];
     kept[..record.len()].copy_from_slice(record);
-    let old = step.state.phase == RUNNING && answer.state.kept == step.state.kept;
-    must(old || answer.state.kept == kept, "the kept record is neither the old one nor the new one")
+    kept
 }
 
 fn terminated(step: &Step, answer: &Answer) -> Result<(), String> {

@@ -5,6 +5,9 @@ use super::rng::Rng;
 use super::valid::printable;
 use crate::description::{Field, FINAL, NUMBER, TEXT};
 
+/// What a number begins with; a blank stands for a plus.
+pub const SIGNS: [u8; 3] = *b"+- ";
+
 /// A record with every field set afresh; the bytes of no field are anything.
 pub fn fresh(rng: &mut Rng, draft: &Draft) -> Vec<u8> {
     let mut row: Vec<u8> = (0..draft.record).map(|_| rng.byte()).collect();
@@ -21,15 +24,15 @@ pub fn fresh(rng: &mut Rng, draft: &Draft) -> Vec<u8> {
 pub fn after(rng: &mut Rng, draft: &Draft, last: &[u8]) -> Vec<u8> {
     let mut row = last.to_vec();
     let controls = draft.control_fields();
-    match rng.below(20) {
-        0 => return fresh(rng, draft),
-        1..=9 => {
-            if let Some(f) = rng.maybe(&controls) {
-                set(rng, draft.fields[f as usize], &mut row);
-            }
-        }
-        10 => controls.iter().for_each(|&f| turn_zero(draft.fields[f as usize], &mut row)),
+    let control = rng.maybe(&controls).map(|f| draft.fields[f as usize]);
+    match (rng.below(20), control) {
+        (0, _) => return fresh(rng, draft),
+        (1..=9, Some(field)) => set(rng, field, &mut row),
+        (10..=11, Some(field)) => set_sign(rng, field, &mut row),
         _ => {}
+    }
+    if rng.chance(15) {
+        controls.iter().for_each(|&f| write_otherwise(rng, draft.fields[f as usize], &mut row));
     }
     for f in 0..draft.fields.len() as u16 {
         if !controls.contains(&f) && rng.chance(60) {
@@ -76,7 +79,7 @@ fn set_number(rng: &mut Rng, field: Field, row: &mut [u8]) {
     let bytes = bytes_mut(field, row);
     let last = bytes.len() - 1;
     bytes.fill(b'0');
-    bytes[0] = rng.pick(b"++-");
+    bytes[0] = rng.pick(&SIGNS);
     // The first of the digits that are not 0 only.
     let first = rng.between(1, last);
     match rng.below(12) {
@@ -91,12 +94,32 @@ fn set_number(rng: &mut Rng, field: Field, row: &mut [u8]) {
     }
 }
 
-/// "+000" becomes "-000" and the other way round; other values stay.
-fn turn_zero(field: Field, row: &mut [u8]) {
-    let bytes = bytes_mut(field, row);
-    if field.kind == NUMBER && bytes[1..].iter().all(|&byte| byte == b'0') {
-        bytes[0] = if bytes[0] == b'+' { b'-' } else { b'+' };
+/// A number's digits stay, whatever its sign becomes: often another value.
+fn set_sign(rng: &mut Rng, field: Field, row: &mut [u8]) {
+    if field.kind == NUMBER {
+        bytes_mut(field, row)[0] = rng.pick(&SIGNS);
     }
+}
+
+/// The same value with another sign: any for a zero, '+' and blank for one another. Text and numbers below 0 stay.
+fn write_otherwise(rng: &mut Rng, field: Field, row: &mut [u8]) {
+    let bytes = bytes_mut(field, row);
+    if field.kind == TEXT {
+        return;
+    }
+    bytes[0] = match bytes[0] {
+        b'+' if has_digits_of_zero(bytes) => rng.pick(b"- "),
+        b' ' if has_digits_of_zero(bytes) => rng.pick(b"-+"),
+        b'-' if has_digits_of_zero(bytes) => rng.pick(b"+ "),
+        b'+' => b' ',
+        b' ' => b'+',
+        other => other,
+    };
+}
+
+/// Behind the sign stand zeros only.
+pub fn has_digits_of_zero(bytes: &[u8]) -> bool {
+    bytes[1..].iter().all(|&byte| byte == b'0')
 }
 
 /// Sets again the number fields that a text set over them has spoilt.
@@ -113,7 +136,7 @@ fn well_formed(field: Field, row: &[u8]) -> bool {
     if field.kind == TEXT {
         return bytes.iter().all(|byte| (32..=126).contains(byte));
     }
-    matches!(bytes[0], b'+' | b'-') && bytes[1..].iter().all(u8::is_ascii_digit)
+    SIGNS.contains(&bytes[0]) && bytes[1..].iter().all(u8::is_ascii_digit)
 }
 
 /// The first field whose bytes are malformed, in a record of the right length.
@@ -136,7 +159,12 @@ fn spoil(rng: &mut Rng, draft: &Draft, target: usize, row: &mut [u8]) {
     let before = row.to_vec();
     for _ in 0..8 {
         row.copy_from_slice(&before);
-        spoil_byte(rng, draft.fields[target], row);
+        let field = draft.fields[target];
+        if field.kind == NUMBER && rng.chance(60) {
+            misplace_sign(rng, bytes_mut(field, row));
+        } else {
+            spoil_byte(rng, field, row);
+        }
         if first_malformed(draft, row) == Some(target as u32) {
             return;
         }
@@ -149,9 +177,26 @@ fn spoil_byte(rng: &mut Rng, field: Field, row: &mut [u8]) {
     let at = rng.pick(&[0, bytes.len() - 1, any]);
     bytes[at] = match (field.kind, at) {
         (TEXT, _) => rng.pick(&[31, 127, 0, 10, 128, 255]),
-        (_, 0) => rng.pick(b" 05,.*/\x00\xff"),
+        (_, 0) => rng.pick(b"05,.*!\t\x1f\x00\xa0\xff"),
         _ => rng.pick(b"/: +-.A\x00\xff"),
     };
+}
+
+/// A number as a till might send it that R-5 does not take: a blank or a sign where a digit belongs, or no sign. One of
+/// these is well formed in two bytes.
+fn misplace_sign(rng: &mut Rng, bytes: &mut [u8]) {
+    let last = bytes.len() - 1;
+    match rng.below(8) {
+        0 => bytes.fill(b' '),
+        1 => bytes[..last].fill(b' '),
+        2 => bytes[..2].copy_from_slice(&rng.pick(&[*b" +", *b" -"])),
+        3 => bytes[..2].copy_from_slice(&rng.pick(&[*b"+ ", *b"- "])),
+        4 => bytes[..2].fill(b' '),
+        5 => bytes[last] = b' ',
+        6 => bytes[0] = b'0',
+        // The sign behind the digits.
+        _ => bytes.rotate_left(1),
+    }
 }
 
 /// The level of the first control from the senior end whose value differs.

@@ -274,7 +274,7 @@ impl Sequence {
             let details = draft.details() as u32;
             d = self.rng.pick(&[details, details, details + 1, 8, 255, 256 + d, 65536 + d, u32::MAX]);
         }
-        if self.rng.chance(45) {
+        if self.rng.chance(60) {
             rows::malform(&mut self.rng, draft, &mut record);
         }
         if self.rng.chance(25) {

@@ -16,8 +16,8 @@ pub struct Shown<'a> {
     pub part: &'a [u8],
     /// The number; `None` for a sum, and where the record read is not known here.
     pub value: Option<i64>,
-    /// Its field's bytes have a '-'.
-    pub has_minus: bool,
+    /// What its field's bytes begin with, where those are known.
+    pub field_sign: Option<u8>,
 }
 
 /// Those of an accepted call, whose lines hold these rows.
@@ -44,8 +44,8 @@ pub fn all<'a>(
                 LINE_COUNTER => Some(decimal(&line[6..9])),
                 _ => field.map(rows::value),
             };
-            let has_minus = field.is_some_and(|bytes| bytes[0] == b'-');
-            all.push(Shown { item: *item, picture: picture::text(picture), part, value, has_minus });
+            let field_sign = field.map(|bytes| bytes[0]);
+            all.push(Shown { item: *item, picture: picture::text(picture), part, value, field_sign });
         }
     }
     all

@@ -124,9 +124,12 @@ pub const DAMAGES: [&str; 23] = [
     "saved outside",
     "sum beyond",
     "flag beyond",
-    "kept record",
+    KEPT_RECORD,
     "kept beyond",
 ];
+
+/// The damage of a kept record that is not well formed.
+pub const KEPT_RECORD: &str = "kept record";
 
 /// Something no phase allows.
 fn out_of_range(rng: &mut Rng, draft: &Draft, state: &mut State) -> Option<&'static str> {
@@ -164,7 +167,8 @@ fn no_longer_fresh(rng: &mut Rng, draft: &Draft, state: &mut State) -> Option<&'
 /// Something in range that a running state may not have; `None` where the draft gives no place.
 fn not_running_so(rng: &mut Rng, draft: &Draft, state: &mut State) -> Option<&'static str> {
     let limits = &draft.page;
-    let damage = 14 + rng.below(9);
+    // The kept record more often: it can be malformed in many ways.
+    let damage = if rng.chance(15) { 21 } else { 14 + rng.below(9) };
     match damage {
         14 => {
             (state.seen, state.saved) = (1, 0);

@@ -60,7 +60,13 @@ impl Tally {
                 features::of_call(draft, step, answer).iter().for_each(|name| self.count(name));
             }
             (1, _) => self.count(&format!("refusal 1 with {}", answer.extra)),
-            (6, _) => self.count(&format!("refusal 6 with {}", answer.extra)),
+            (2, Ok(draft)) => {
+                features::of_refusal_2(draft, step).iter().for_each(|name| self.count(name));
+            }
+            (6, Ok(draft)) => {
+                self.count(&format!("refusal 6 with {}", answer.extra));
+                features::of_refusal_6(draft, step, answer.extra).iter().for_each(|name| self.count(name));
+            }
             _ => {}
         }
     }
