@@ -228,7 +228,7 @@ fn writes_the_lines_of_a_row_before_it_reads_on() {
 fn names_the_row_that_is_refused() {
     let folder = Folder::new("pipe-rows");
     let desc = example("whole_run.desc");
-    for rows in [&b"AA+005AA+007BB*002BB+009"[..], b"\x07A+005BB+009", b"AA+005AA 007"] {
+    for rows in [&b"AA+005AA+007BB*002BB+009"[..], b"\x07A+005BB+009", b"AA 005AA 07 "] {
         let by_file = sheet(&[&desc, &folder.file("rows", rows)]);
         assert_eq!(by_file, wanted(&read(&desc), rows));
         assert!(by_file.errors.contains("is malformed; refusal 6"), "{}", by_file.errors);

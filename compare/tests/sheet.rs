@@ -161,7 +161,7 @@ fn names_the_row_that_is_refused() {
     let cases: [(&[u8], usize, &str); 5] = [
         (b"AA+005AA+007BB*002BB+009", 3, amount),
         (b"\x07A+005", 1, "field 0 (bytes 0 to 1) is malformed; refusal 6, extra number 0"),
-        (b"AA+005AA 007", 2, amount),
+        (b"AA 005AA 07 ", 2, amount),
         (b"AA+005AA+007BB-002BB", 4, "the record's length is 2, not 6; refusal 5, extra number 0"),
         (b"AA+005\n", 2, "the record's length is 1, not 6; refusal 5, extra number 0"),
     ];
