@@ -52,8 +52,9 @@ def check_function(doc, crate, path, name):
 
 
 def check_lines():
-    """The quoted line stands in one of the files that the row names, but for blanks and line ends."""
+    """The quoted line stands in one of the files that the row names, but for blanks and line ends; a table's cell has `\\|` for `|`."""
     for where, line in CLAUSE.findall(read(DOCS[0])):
+        line = line.replace("\\|", "|")
         paths = [f"crates/{m[1]}/{m[2]}/{m[3]}.antt" for m in FILE.finditer(where)]
         paths += [path for m in FUNCTION.finditer(where) for path in glob.glob(f"crates/{m[1]}/src/*.rt")]
         texts = [" ".join(read(path).split()) for path in paths if os.path.exists(path)]
