@@ -1,0 +1,2 @@
+-- The proof that what is computed is the total explained.
+pub mod Facts

@@ -1,0 +1,3 @@
+-- A total explained from the rows.
+pub mod Explained
+pub mod Facts

@@ -1,0 +1,1 @@
+// A total explained from the rows.

@@ -1,0 +1,3 @@
+-- Laws of routes.
+pub mod Rank
+pub mod Whole

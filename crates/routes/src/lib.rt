@@ -1,0 +1,1 @@
+// The routes of addends to the counters.
