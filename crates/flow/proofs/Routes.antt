@@ -20,7 +20,6 @@ use Rattle.explained.specs.Explained.{Row, added, amount, worth, since, explain
 use Rattle.flow.proofs.Sum.{sumZ, sum-same, sum-add}
 use Rattle.flow.proofs.Flow.{named, full, named-same}
 use Rattle.routes.specs.Facts.{Counters, addendOf, index}
-
 use Rattle.flow.proofs.Named.{addends-named}
 use Rattle.flow.proofs.Direct.{direct}
 use Rattle.flow.proofs.Foot.{flowOf}

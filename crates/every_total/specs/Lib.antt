@@ -1,0 +1,3 @@
+-- Every printed total explained from the rows.
+pub mod Calls
+pub mod Totals
