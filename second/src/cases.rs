@@ -3,9 +3,13 @@
 //! A comparison draws `case`s, asks each `Sequence` for its `Step`s and hands every step to both
 //! programs, with an output filled by `Step::output`; the answer of one of them leads to the next
 //! step. `main` runs the second program alone and looks at what any implementation must keep.
+//!
+//! For R-6 it draws `explained_case`s and tells an `Explainer` each accepted step that `goes_on`; `Explained::run` does
+//! so with the second program alone.
 
 mod broken;
 mod draft;
+mod explained;
 mod features;
 mod keep;
 mod pictures;
@@ -17,11 +21,13 @@ mod sequence;
 mod shown;
 mod signs;
 mod states;
+mod summing;
 mod tally;
 mod valid;
 mod walk;
 
 pub use draft::{Block, Count, Draft, Page, Row};
+pub use explained::{explained_case, summing_description, Explained};
 pub use keep::call as keeps;
 pub use rng::Rng;
 pub use sample::{damaged, sample, Sample};
@@ -98,27 +104,32 @@ pub fn play(desc: &[u8], step: &Step) -> (Answer, Vec<u8>) {
 
 const HELP: &str = "second cases: random cases against the second program
 
-  second cases [--seed N] [--descriptions N] [--calls N] [--all]
+  second cases [--seed N] [--descriptions N] [--calls N] [--footings N] [--all]
   second cases --case N
+  second cases --explained-case N
 
   --seed N          where chance begins (1)
   --descriptions N  how many descriptions CHECK gets (50000)
   --calls N         how many calls are made after that, at least (100000)
+  --footings N      how many footings are then explained from the rows (R-6), at least (100000)
   --all             list every feature with its count
   --case N          show one case: its description, its calls and their answers
+  --explained-case N  the same of a case of R-6
 
 Prints how often each rule and refusal was reached. Ends with 1 where one was not reached, where a
-clause of rule 9 or a feature of pictures was not reached 100 times, one of signs 100 or 25 times, or
-where an answer was not what any implementation must give; else with 0.
+clause of rule 9 or a feature of pictures was not reached 100 times, one of signs 100 or 25 times, one of
+R-6 100 to 1000 times, where an answer was not what any implementation must give, or where a sum was not
+as explained under a description that keeps R-6's condition; else with 0.
 ";
 
-#[derive(Clone, Copy, Debug)]
+#[derive(Clone, Debug)]
 struct Amounts {
     seed: u64,
     descriptions: usize,
     calls: usize,
+    footings: u64,
     all: bool,
-    case: Option<u64>,
+    case: Option<Case>,
 }
 
 /// The command `second cases`; gives the exit code.
@@ -128,7 +139,7 @@ pub fn main(args: &[String]) -> i32 {
         return 0;
     }
     match read_args(args) {
-        Ok(Amounts { case: Some(seed), .. }) => show_case(seed),
+        Ok(Amounts { case: Some(case), .. }) => show_case(case),
         Ok(amounts) => run_and_report(amounts),
         Err(wrong) => {
             eprintln!("second cases: {wrong}; --help tells more");
@@ -138,7 +149,8 @@ pub fn main(args: &[String]) -> i32 {
 }
 
 fn read_args(args: &[String]) -> Result<Amounts, String> {
-    let mut amounts = Amounts { seed: 1, descriptions: 50_000, calls: 100_000, all: false, case: None };
+    let mut amounts =
+        Amounts { seed: 1, descriptions: 50_000, calls: 100_000, footings: 100_000, all: false, case: None };
     let mut args = args.iter();
     while let Some(name) = args.next() {
         if name == "--all" {
@@ -151,7 +163,9 @@ fn read_args(args: &[String]) -> Result<Amounts, String> {
             "--seed" => amounts.seed = value().ok_or_else(wanted)?,
             "--descriptions" => amounts.descriptions = value().ok_or_else(wanted)? as usize,
             "--calls" => amounts.calls = value().ok_or_else(wanted)? as usize,
-            "--case" => amounts.case = Some(value().ok_or_else(wanted)?),
+            "--footings" => amounts.footings = value().ok_or_else(wanted)?,
+            "--case" => amounts.case = Some(case(value().ok_or_else(wanted)?)),
+            "--explained-case" => amounts.case = Some(explained_case(value().ok_or_else(wanted)?)),
             _ => return Err(format!("{name} is unknown")),
         }
     }
@@ -159,16 +173,19 @@ fn read_args(args: &[String]) -> Result<Amounts, String> {
 }
 
 fn run_and_report(amounts: Amounts) -> i32 {
-    let run = Run::of(amounts, &|line| eprintln!("{line}"));
-    print!("{}", run.tally.report(amounts.all));
-    let missing = run.tally.missing();
+    let run = Run::of(&amounts, &|line| eprintln!("{line}"));
+    let explained = Explained::run(amounts.seed, amounts.footings);
+    eprintln!("{} footings explained", explained.footings);
+    print!("{}{}", run.tally.report(amounts.all), explained.report(amounts.all));
+    let missing = [run.tally.missing(), explained.missing()].concat();
     for name in &missing {
         println!("NOT REACHED: {name}");
     }
-    for line in &run.wrong {
+    let wrong = [run.wrong, explained.wrong].concat();
+    for line in &wrong {
         println!("WRONG: {line}");
     }
-    if missing.is_empty() && run.wrong.is_empty() {
+    if missing.is_empty() && wrong.is_empty() {
         println!("all reached, nothing wrong (seed {})", amounts.seed);
         return 0;
     }
@@ -189,7 +206,7 @@ struct Run<'a> {
 }
 
 impl Run<'_> {
-    fn of(amounts: Amounts, progress: &dyn Fn(&str)) -> Run<'_> {
+    fn of<'a>(amounts: &Amounts, progress: &'a dyn Fn(&str)) -> Run<'a> {
         let mut rng = Rng::new(amounts.seed);
         let mut run = Run { tally: Tally::new(), wrong: Vec::new(), progress };
         for done in 1..=amounts.descriptions {
@@ -242,8 +259,8 @@ impl Run<'_> {
 }
 
 /// Prints a case whole.
-fn show_case(seed: u64) -> i32 {
-    let Case { desc, mut steps, .. } = case(seed);
+fn show_case(case: Case) -> i32 {
+    let Case { desc, mut steps, .. } = case;
     println!("description {}", hex(&desc));
     match steps.draft() {
         Ok(draft) => println!("{draft:#?}"),
@@ -428,8 +445,9 @@ mod tests {
 
     #[test]
     fn a_small_run_reaches_every_rule_and_refusal() {
-        let amounts = Amounts { seed: 1, descriptions: 4_000, calls: 10_000, all: false, case: None };
-        let run = Run::of(amounts, &|_| {});
+        let amounts =
+            Amounts { seed: 1, descriptions: 4_000, calls: 10_000, footings: 0, all: false, case: None };
+        let run = Run::of(&amounts, &|_| {});
         assert_eq!(run.wrong, Vec::<String>::new());
         let missing = run.tally.missing();
         let never = missing.iter().filter(|name| name.contains("CHECK") || name.contains(": refusal "));

@@ -4,19 +4,23 @@ use std::fs::File;
 use std::io::{self, BufReader, BufWriter, Read, Write};
 use std::process::exit;
 
+use second::description::{Item, SUM};
+use second::explain::{self, Explainer, Explanation};
 use second::feeder::{self, Feeder, LONGEST_CHUNK};
-use second::report::{generate, initiate, terminate, Answer};
+use second::report::{generate, initiate, terminate, Answer, Call};
 use second::state::State;
 use second::{cases, description, source};
 
 const USAGE: &str = "\
-second: document 01, and R-1, R-2, R-4 and R-5 of document 02, a second time, on its own
+second: document 01, and R-1, R-2, R-4, R-5 and R-6 of document 02, a second time, on its own
 
 usage: second COMMAND ...
 
   second check DESCRIPTION                    says whether a description keeps D1 to D8 and rule 9
   second print DESCRIPTION RECORDS [-o OUT]   prints the sheet of a record file
   second feed DESCRIPTION [-n N] [-o OUT]     prints the sheet of standard input, fed in pieces
+  second explain DESCRIPTION RECORDS PAGE LINE
+                                              says which rows make up the sums of a printed line
   second build SOURCE OUT                     makes a description from its text source
   second cases ...                            random cases
 
@@ -47,6 +51,16 @@ sheet, to standard output or to OUT, is the one that `second print` gives. A ref
 before it stands. Input that ends within a row is refusal 10, with the count of that row's bytes.
 ";
 
+const EXPLAIN_USAGE: &str = "\
+usage: second explain DESCRIPTION RECORDS PAGE LINE
+
+Makes the calls of `second print` up to the one that prints line LINE of page PAGE, and explains each sum on that line
+from the rows alone (R-6): its counter, its total, and each amount that makes it up, with its row counted from 1, its
+field, and how many times it counts. Counters and fields are numbered from 0 and amounts are whole, as in the
+description and the records. Only for descriptions in which no counter that feeds another has a reset level senior to
+its own group's.
+";
+
 const BUILD_USAGE: &str = "\
 usage: second build SOURCE OUT
 
@@ -73,6 +87,7 @@ fn main() {
         Some("check") => check(args_of_command),
         Some("print") => print(args_of_command),
         Some("feed") => feed(args_of_command),
+        Some("explain") => explain(args_of_command),
         Some("build") => build(args_of_command),
         _ => Err(Failure::Usage(USAGE)),
     };
@@ -358,4 +373,117 @@ impl Fed<'_, '_> {
     fn double(&mut self) {
         self.out.resize(2 * self.out.len(), 0);
     }
+}
+
+fn explain(args: &[String]) -> Result<(), Failure> {
+    if wants_help(args) {
+        return show(EXPLAIN_USAGE);
+    }
+    let [description, records, page, line] = args else {
+        return Err(Failure::Usage(EXPLAIN_USAGE));
+    };
+    let number = |word: &str| word.parse::<u32>().map_err(|_| Failure::Usage(EXPLAIN_USAGE));
+    let (page, line) = (number(page)?, number(line)?);
+    let bytes = read(description)?;
+    let answer = initiate(&bytes, &State::fresh());
+    accepted(answer.number, answer.extra, "INITIATE")?;
+    let mut asked = Asked {
+        explainer: explainer(description, &bytes)?,
+        description: &bytes,
+        state: answer.state,
+        out: vec![0; 1 << 16],
+        page,
+        line,
+    };
+    let rows = read(records)?;
+    if rows.is_empty() {
+        return Err(Failure::Line(format!("second: {records}: the file is empty")));
+    }
+    show(&asked.explanation(&rows)?)
+}
+
+/// An explainer of a report just initiated, if the description keeps R-6's condition.
+fn explainer(name: &str, bytes: &[u8]) -> Result<Explainer, Failure> {
+    let mut explainer =
+        Explainer::new(bytes).map_err(|rule| Failure::Line(format!("refused 1, rule {rule}")))?;
+    if let Some(counter) = explain::first_outside(explainer.description()) {
+        let why = format!("counter {counter} feeds another and has a reset level senior to its group's");
+        return Err(Failure::Line(format!("second: {name}: outside R-6: {why}")));
+    }
+    explainer.enter(&Call::Initiate);
+    Ok(explainer)
+}
+
+/// A printed line that is asked about, and the report so far.
+struct Asked<'a> {
+    description: &'a [u8],
+    explainer: Explainer,
+    state: State,
+    out: Vec<u8>,
+    page: u32,
+    line: u32,
+}
+
+impl Asked<'_> {
+    /// The calls one after the other, up to the one that prints the line; what is to be said of it.
+    fn explanation(&mut self, rows: &[u8]) -> Result<String, Failure> {
+        let length = usize::from(self.explainer.description().r);
+        for (row, number) in rows.chunks(length).zip(1..) {
+            let call = Call::Generate { d: 0, record: row.to_vec() };
+            if let Some(text) = self.make(&call, &format!("GENERATE of row {number}"))? {
+                return Ok(text);
+            }
+        }
+        let name = format!("TERMINATE after row {}", rows.len().div_ceil(length));
+        let (page, line) = (self.page, self.line);
+        let none = || Failure::Line(format!("second: there is no line {line} on page {page}"));
+        self.make(&Call::Terminate, &name)?.ok_or_else(none)
+    }
+
+    /// Makes one call. Where it prints the line, says what is to be said of it.
+    fn make(&mut self, call: &Call, name: &str) -> Result<Option<String>, Failure> {
+        let (description, state) = (self.description, &self.state);
+        let answer = with_room(&mut self.out, |out| match call {
+            Call::Initiate => initiate(description, state),
+            Call::Generate { d, record } => generate(description, state, *d, record, out),
+            Call::Terminate => terminate(description, state, out),
+        });
+        accepted(answer.number, answer.extra, name)?;
+        if let Some((nth, line)) = explain::line_at(&self.explainer, state, call, self.page, self.line) {
+            let items = self.explainer.description().items_of(line);
+            let bytes = usize::from(self.explainer.description().w) + 10;
+            return self.told(items, &self.out[nth * bytes..][..bytes], call).map(Some);
+        }
+        self.explainer.enter(call);
+        self.state = answer.state;
+        Ok(None)
+    }
+
+    /// The sums among a line's items, each with what the line shows of it and what makes it up.
+    fn told(&self, items: &[Item], line: &[u8], call: &Call) -> Result<String, Failure> {
+        let explanations = self.explainer.explain(call);
+        let mut text = format!("page {}, line {}\n", self.page, self.line);
+        for item in items.iter().filter(|item| item.source == SUM) {
+            let of_item = |explanation: &&Explanation| explanation.counter == usize::from(item.index);
+            let Some(explanation) = explanations.iter().find(of_item) else { continue };
+            let shown = &line[8 + usize::from(item.column)..][..usize::from(item.width)];
+            text += &format!("column {} shows \"{}\"\n", item.column, String::from_utf8_lossy(shown));
+            text += &told_sum(explanation);
+        }
+        if text.lines().count() == 1 {
+            let (page, line) = (self.page, self.line);
+            return Err(Failure::Line(format!("second: line {line} on page {page} shows no sum")));
+        }
+        Ok(text)
+    }
+}
+
+/// A counter's total and the amounts that make it up.
+fn told_sum(explanation: &Explanation) -> String {
+    let mut text = format!("  counter {}, total {}\n", explanation.counter, explanation.total);
+    for share in &explanation.shares {
+        let (row, field, amount, times) = (share.row + 1, share.field, share.amount, share.times);
+        text += &format!("  row {row}, field {field}: amount {amount}, times {times}\n");
+    }
+    text
 }

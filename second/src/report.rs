@@ -7,6 +7,14 @@ use crate::record;
 use crate::state::{State, IDLE, STARTED};
 use crate::turns::{self, Turn};
 
+/// One call: INITIATE, GENERATE a record as detail number `d`, or TERMINATE.
+#[derive(Clone, Debug, PartialEq, Eq)]
+pub enum Call {
+    Initiate,
+    Generate { d: u32, record: Vec<u8> },
+    Terminate,
+}
+
 #[derive(Clone, Debug, PartialEq, Eq)]
 pub struct Answer {
     /// 0 accepted, else the refusal number.
@@ -131,7 +139,8 @@ fn put(
     Ok(count)
 }
 
-fn place_of(state: &State) -> Place {
+/// The place on the sheet that a state tells.
+pub fn place_of(state: &State) -> Place {
     Place {
         page: state.page,
         line: u32::from(state.line),

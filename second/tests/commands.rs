@@ -72,6 +72,7 @@ fn help_is_given() {
         &["check", "--help"],
         &["print", "--help"],
         &["feed", "--help"],
+        &["explain", "--help"],
         &["build", "--help"],
     ] {
         let (code, out, error) = run(&path, args);

@@ -3,7 +3,7 @@
 use std::fs;
 use std::path::Path;
 
-const ORDER: [&str; 16] = [
+const ORDER: [&str; 17] = [
     "layout",
     "tables",
     "picture",
@@ -16,6 +16,7 @@ const ORDER: [&str; 16] = [
     "place",
     "print",
     "report",
+    "explain",
     "feeder",
     "builder",
     "source",

@@ -43,6 +43,14 @@ pub fn after(rng: &mut Rng, draft: &Draft, last: &[u8]) -> Vec<u8> {
     row
 }
 
+/// Gives a record the controls of the one before it: it makes no break.
+pub fn copy_controls(draft: &Draft, last: &[u8], row: &mut [u8]) {
+    for f in draft.control_fields() {
+        let field = draft.fields[f as usize];
+        bytes_mut(field, row).copy_from_slice(bytes_of(field, last));
+    }
+}
+
 fn fields_of(draft: &Draft, kind: u16) -> impl Iterator<Item = Field> + '_ {
     draft.fields.iter().copied().filter(move |field| field.kind == kind)
 }

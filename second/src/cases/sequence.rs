@@ -9,12 +9,7 @@ use crate::description::{CF, CH, DE, PF, PH, RF, RH};
 use crate::report::Answer;
 use crate::state::{State, IDLE, RUNNING, STARTED};
 
-#[derive(Clone, Debug, PartialEq, Eq)]
-pub enum Call {
-    Initiate,
-    Generate { d: u32, record: Vec<u8> },
-    Terminate,
-}
+pub use crate::report::Call;
 
 /// What the generator knows of the answer beforehand.
 #[derive(Clone, Copy, Debug, PartialEq, Eq)]
@@ -48,6 +43,11 @@ impl Step {
     pub fn output(&self) -> Vec<u8> {
         (0..self.room).map(|at| pattern(at, self.salt)).collect()
     }
+
+    /// Whether the sequence goes on from an accepted answer's state.
+    pub fn goes_on(&self) -> bool {
+        self.adopt
+    }
 }
 
 /// The byte at a place of an output that no call has written.
@@ -66,6 +66,8 @@ pub struct Sequence {
     left: usize,
     /// How often, in a hundred steps, it goes on from a state far away.
     jumps: usize,
+    /// How often, in a hundred rows, all controls stay as they are.
+    calm: usize,
     /// Steps to follow, the next one last.
     waiting: Vec<Step>,
     last: Option<Step>,
@@ -85,9 +87,17 @@ impl Sequence {
             row,
             left: calls,
             jumps,
+            calm: 0,
             waiting: Vec::new(),
             last: None,
         }
+    }
+
+    /// The same, never going on from a state far away: the calls it goes on from make one run from a fresh state. Some
+    /// have longer groups of rows between their breaks.
+    pub fn from_fresh(rng: &mut Rng, draft: Result<Draft, u8>, calls: usize) -> Sequence {
+        let calm = rng.pick(&[0, 40, 70, 85]);
+        Sequence { jumps: 0, calm, ..Sequence::new(rng, draft, calls) }
     }
 
     pub fn draft(&self) -> Result<&Draft, u8> {
@@ -180,7 +190,10 @@ impl Sequence {
             IDLE => Call::Initiate,
             _ if self.rng.chance(6) => Call::Terminate,
             _ => {
-                let record = rows::after(&mut self.rng, draft, &self.row);
+                let mut record = rows::after(&mut self.rng, draft, &self.row);
+                if self.calm > 0 && self.rng.chance(self.calm) {
+                    rows::copy_controls(draft, &self.row, &mut record);
+                }
                 Call::Generate { d: self.rng.below(draft.details()) as u32, record }
             }
         };

@@ -3,6 +3,7 @@
 use super::draft::{Block, Count, Draft, Page, Row, Section};
 use super::pictures;
 use super::rng::Rng;
+use super::summing;
 use crate::builder::padded;
 use crate::description::{
     Addend, Field, Item, ADD_COUNTER, ADD_FIELD, CF, CH, DE, FIELD, FINAL, LINE_ABSOLUTE, LINE_COUNTER,
@@ -44,6 +45,17 @@ pub fn turning(rng: &mut Rng) -> Draft {
     }
 }
 
+/// One whose counters feed each other, for R-6: at least two footings, and a counter that adds another.
+pub fn summing(rng: &mut Rng) -> Draft {
+    loop {
+        let version = rng.number(1, 2);
+        let draft = build_with(rng, version, false, summing::add_counters);
+        if draft.groups_of(CF).len() > 1 && summing::feeds(&draft) {
+            return draft;
+        }
+    }
+}
+
 /// A rich description with `past` entries in one section beyond its limit. It keeps the rules but for that limit.
 /// With none beyond it, groups stop at 28: four, two a level, eight details.
 pub fn filled(rng: &mut Rng, section: Section, past: usize) -> Draft {
@@ -61,6 +73,10 @@ pub fn filled(rng: &mut Rng, section: Section, past: usize) -> Draft {
 }
 
 fn build(rng: &mut Rng, version: u16, rich: bool) -> Draft {
+    build_with(rng, version, rich, add_counters)
+}
+
+fn build_with(rng: &mut Rng, version: u16, rich: bool, counters: fn(&mut Rng, &mut Draft)) -> Draft {
     let mut draft = Draft {
         layout: Layout::of(version).expect("an accepted version"),
         page: if rich { long_page(rng) } else { page(rng) },
@@ -76,7 +92,7 @@ fn build(rng: &mut Rng, version: u16, rich: bool) -> Draft {
     if rng.chance(3) {
         stretch(rng, &mut draft, 99);
     }
-    add_counters(rng, &mut draft);
+    counters(rng, &mut draft);
     add_items(rng, &mut draft);
     add_unused_pictures(rng, &mut draft);
     draft
@@ -431,14 +447,7 @@ fn add_counters(rng: &mut Rng, draft: &mut Draft) {
         let group = rng.pick(&footings);
         draft.counters.push(new_counter(rng, draft, group));
     }
-    if rng.chance(60) {
-        // Junior footings last, the most usual order, or first.
-        let levels: Vec<u16> = draft.groups.iter().map(|group| group.level).collect();
-        draft.counters.sort_by_key(|counter| levels[counter.group as usize]);
-        if rng.chance(30) {
-            draft.counters.reverse();
-        }
-    }
+    arrange_counters(rng, draft);
     let mut left = draft.limit(Section::Addends);
     for counter in 0..draft.counters.len() {
         let most = left - (draft.counters.len() - counter - 1);
@@ -448,18 +457,29 @@ fn add_counters(rng: &mut Rng, draft: &mut Draft) {
     }
 }
 
+/// Often by level: junior footings last, the most usual order, or first. They have no addends yet.
+pub fn arrange_counters(rng: &mut Rng, draft: &mut Draft) {
+    if rng.chance(60) {
+        let levels: Vec<u16> = draft.groups.iter().map(|group| group.level).collect();
+        draft.counters.sort_by_key(|counter| levels[counter.group as usize]);
+        if rng.chance(30) {
+            draft.counters.reverse();
+        }
+    }
+}
+
 fn new_counter(rng: &mut Rng, draft: &Draft, group: usize) -> Count {
     let level = draft.groups[group].level;
     let reset = if rng.chance(60) { level } else { rng.number(0, level) };
     Count { group: group as u16, reset, addends: Vec::new() }
 }
 
-fn number_fields(draft: &Draft) -> Vec<u16> {
+pub fn number_fields(draft: &Draft) -> Vec<u16> {
     (0..draft.fields.len() as u16).filter(|&f| draft.fields[f as usize].kind == NUMBER).collect()
 }
 
 /// Counters that `counter` may add: of a more junior footing, or earlier in the same one.
-fn counters_to_add(draft: &Draft, counter: usize) -> Vec<u16> {
+pub fn counters_to_add(draft: &Draft, counter: usize) -> Vec<u16> {
     let own = draft.counters[counter].group;
     let level = draft.counter_level(counter);
     let may = |&other: &usize| {
@@ -487,7 +507,7 @@ fn addends_to_choose(rng: &mut Rng, draft: &Draft, counter: usize) -> Vec<Addend
     choice
 }
 
-fn mask(rng: &mut Rng, details: usize) -> u16 {
+pub fn mask(rng: &mut Rng, details: usize) -> u16 {
     let all = (1 << details) - 1;
     if rng.chance(50) {
         all

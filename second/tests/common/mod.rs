@@ -59,6 +59,62 @@ pub fn sheet_bytes(dots: &str) -> Vec<u8> {
     dots.replace('.', " ").into_bytes()
 }
 
+// The counters of the example of source document 004.
+pub const C: usize = 0;
+pub const D: usize = 1;
+pub const E: usize = 2;
+pub const F: usize = 3;
+pub const G: usize = 4;
+pub const H: usize = 5;
+
+/// The example of source document 004, fitted to document 01 as `tests/czech.rs` tells.
+/// RD ZPRAVA CONTROLS [FINAL] PRVNI DRUHY PAGE 65. The record: PRVNI, DRUHY, A, B, TALLY.
+pub fn zprava() -> Builder {
+    let mut b = Builder::new(65, 1, 1, 65, 65, 87, 14);
+    let prvni = b.text(0, 1);
+    let druhy = b.text(1, 1);
+    let field_a = b.number(2, 4);
+    let field_b = b.number(6, 4);
+    let tally = b.number(10, 4);
+    b.control(FINAL);
+    b.control(prvni);
+    b.control(druhy);
+    // 01 RADEK TYPE DETAIL LINE PLUS 1. 02 COLUMN 20 PIC ZZZ.99 SOURCE B. 02 SOURCE A.
+    b.group(DE, 0);
+    b.line(LINE_RELATIVE, 1);
+    b.item(Item { decimals: 2, ..item(20, 6, FIELD, field_b) });
+    // 01 CF-DRUHY TYPE CF DRUHY LINE PLUS 2. 02 C COLUMN 20 PIC ZZZ.99 SUM A RESET PRVNI.
+    let cf_druhy = b.group(CF, 2);
+    b.line(LINE_RELATIVE, 2);
+    b.item(Item { decimals: 2, ..item(20, 6, SUM, C as u16) });
+    b.counter(cf_druhy, 1);
+    b.add_field(field_a, 1);
+    // 01 CF-PRVNI TYPE CF PRVNI LINE PLUS 2. 02 D PIC ***.99 SUM B TALLY UPON RADEK. [02 E SUM C.]
+    let cf_prvni = b.group(CF, 1);
+    b.line(LINE_RELATIVE, 2);
+    b.counter(cf_prvni, 1);
+    b.add_field(field_b, 1);
+    b.add_field(tally, 1);
+    b.counter(cf_prvni, 1);
+    b.add_counter(C as u16);
+    // 01 CF-FINAL TYPE CF FINAL LINE PLUS 5. 02 F COLUMN 60 PIC Z(4).99 SUM E D.
+    // 02 G COLUMN 45 PIC Z(4).99 SUM C. 02 H COLUMN 80 PIC *(5).99 SUM F G.
+    let cf_final = b.group(CF, 0);
+    b.line(LINE_RELATIVE, 5);
+    b.item(Item { decimals: 2, ..item(45, 7, SUM, G as u16) });
+    b.item(Item { decimals: 2, ..item(60, 7, SUM, F as u16) });
+    b.item(Item { decimals: 2, ..item(80, 8, SUM, H as u16) });
+    b.counter(cf_final, 0);
+    b.add_counter(E as u16);
+    b.add_counter(D as u16);
+    b.counter(cf_final, 0);
+    b.add_counter(C as u16);
+    b.counter(cf_final, 0);
+    b.add_counter(F as u16);
+    b.add_counter(G as u16);
+    b
+}
+
 /// A report under way.
 pub struct Run {
     pub desc: Vec<u8>,
