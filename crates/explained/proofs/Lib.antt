@@ -1,2 +1,4 @@
--- The proof that what is computed is the total explained.
+-- What acceptance gives of counters, and the laws of the account.
 pub mod Facts
+pub mod Brought
+pub mod Rows

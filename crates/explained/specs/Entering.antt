@@ -36,6 +36,6 @@ pub record Entering (h : Head) (t : List ℕ) (k detail : ℕ) : Type 0 where
 -- one row behind those of an account
 pub record Entry (h : Head) (t : List ℕ) (k detail : ℕ) (row : List ℕ) (a : Account) : Type 0 where
   pub entering : Entering h t k detail
-  pub row : Formed h t row
+  pub rowFormed : Formed h t row
   pub short : length row ≤ recordMax
   pub last : LastRow h t (a .rows) (a .last)

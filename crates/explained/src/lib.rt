@@ -10,7 +10,7 @@ ghost use Rattle.rows.specs.Facts.{Whole, Formed};
 ghost use Rattle.little_endian.specs.Sign.{ofBits};
 ghost use Rattle.footing.specs.Footing.{resets as resetsSpec};
 ghost use Rattle.explained.specs.Account.{takes as takesSpec, amountBits, worthBits, noRows, breakBehind, withRow, entered, sound as soundSpec, EntersAll};
-ghost use Rattle.explained.specs.Entering.{Described, LastRow, Entering, Entry};
+ghost use Rattle.explained.specs.Entering.{LastRow, Entering, Entry};
 use tables::Head;
 
 // Rows entered; rows before the first that counts; the total, modulo 2^64; the last row, then zeros.
@@ -154,16 +154,15 @@ fn is_formed(t: &[u16], h: Head, row: &[u8]) -> bool
     ensures { λ r. ⌜ r ≡ formed h (now (t .entry)) (now (row .entry)) ⌝ }
 {
     let n = tables::wide(h.fields);
-    n <= rows::first_malformed(t, h, row)
+    !(rows::first_malformed(t, h, row) < n)
 }
 
-// Whether the last row, if there is any, is well formed.
-fn sound(t: &[u16], h: Head, a: Account) -> bool
-    requires { ⌜ Described h (now t) ⌝ }
-    ensures { λ r. ⌜ r ≡ soundSpec h (now (t .entry)) (a .rows) (a .last) ⌝ }
+// Whether the last of so many rows, if there is any, is well formed.
+fn sound(t: &[u16], h: Head, rows: u64, last: &[u8]) -> bool
+    requires { ⌜ Whole h (now t) (now last) ⌝ }
+    ensures { λ r. ⌜ r ≡ soundSpec h (now (t .entry)) rows (now (last .entry)) ⌝ }
 {
-    let last = a.last;
-    (a.rows == 0) | is_formed(t, h, &last)
+    (rows == 0) | is_formed(t, h, last)
 }
 
 // Every whole row, until one is malformed; nothing where the account's last row is.
@@ -171,9 +170,10 @@ pub fn enter_rows(t: &[u16], h: Head, k: usize, detail: usize, rows: &[u8], a: A
     requires { ⌜ Entering h (now t) k detail ⌝ }
     ensures { λ r. ⌜ EntersAll h (now (t .entry)) k detail (now (rows .entry)) a r ⌝ }
 {
+    let last = a.last;
     let mut account = a;
     let mut done = 0;
-    if !sound(t, h, a) {
+    if !sound(t, h, a.rows, &last) {
         return Entered { done, account };
     }
     let size = tables::wide(h.reclen);
