@@ -8,7 +8,7 @@ use native.Mathlib.Omega.{arith}
 use borrow.Author.Tests.{eqb-true}
 use lib.Dec.{eqb}
 use lib.IntN.{ℤ}
-use Rattle.counts.proofs.Laws.{by-test}
+use Rattle.counts.proofs.Laws.{by-test, fold-same}
 use Rattle.printed.specs.declared.Prefix.{Prefix}
 use Rattle.printed.specs.Printed.{printed, blanks}
 use Rattle.tables.specs.Kinds.{kindNumber, sourceField}
@@ -20,12 +20,12 @@ use Rattle.item_text.specs.Items.{Inputs, inputs, applied, fieldText, sourceTex
 use Rattle.line_text.specs.Facts.{ItemIn, ItemsIn}
 use Rattle.line_text.specs.Lines.{withOwn, lineText, lineBytes}
 use Rattle.group_text.specs.Groups.{ownBytes, groupBytes}
+use Rattle.group_text.proofs.Groups.{join-same}
 use Rattle.layout.specs.Layout.{Due}
 use Rattle.due_text.specs.Bytes.{reading, viewOf, dueBytes}
 use Rattle.due_text.proofs.Bytes.{GroupsIn, none, more}
 use Rattle.by_value.specs.Same.{SameField, SameFields}
 use Rattle.by_value.proofs.Fields.{same-number, same-text}
-use Rattle.by_value.proofs.Below.{fold-same, join-same}
 
 field-same : (t chars : List ℕ) (x : Item) {a b : List ℕ} → SameField t a b (x .index) → fieldText t chars a x ≡ fieldText t chars b x
 unfolding fieldText

@@ -6,7 +6,7 @@ use mathlib.Core.List.{List}
 use borrow.Author.Tests.{eq-eqb, eqb-true}
 use lib.Dec.{eqb}
 use lib.IntN.{ℤ}
-use Rattle.counts.proofs.Laws.{by-test}
+use Rattle.counts.proofs.Laws.{by-test, fold-same}
 use Rattle.tables.specs.Kinds.{kindNumber, addendField}
 use Rattle.tables.specs.declared.Head.{Head}
 use Rattle.tables.specs.Table.{control, final, fieldKind, firstAddend, addendCount, addendKind, addendIndex}
@@ -25,7 +25,6 @@ use Rattle.state_rules.specs.Rules.{freshOk, keptOk, runningOk, stateOk}
 use Rattle.refusals.specs.Stages.{recordTried}
 use Rattle.by_value.specs.Same.{SameFields, SameValues, SameKept, keeping}
 use Rattle.by_value.proofs.Fields.{same-number}
-use Rattle.by_value.proofs.Below.{fold-same}
 
 -- ---- tests
 module _ {h : Head} {t a b : List ℕ} where

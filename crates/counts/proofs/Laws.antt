@@ -5,9 +5,9 @@
 --     first-next, first-found   one turn of a search, and its find; search-start, search-step, search-end   the whole of it
 --     search-some, search-none  whether it found one
 --     first-at, first-upto      the index found passes, and none before it does
---     fold-next   one turn of a fold; fold-keeps   what every turn keeps
+--     fold-next   one turn of a fold; fold-keeps   what every turn keeps; fold-same   a fold goes by its function below the bound alone
 --     list-at, list-filled      an entry of a list made of f, and a list that has f at each index; list-next   one entry more
---     join-at     an entry of a join, by the lengths of its lists
+--     join-same   so does a join; join-at   an entry of a join, by the lengths of its lists
 --     join-list   the parts of one list, joined
 -- Assumes nothing.
 use mathlib.Core.Path.{_≡_, refl, sym, _∙_, ap}
@@ -161,6 +161,12 @@ unfolding foldBelow
 fold-keeps f P zero h p = p
 fold-keeps f P (suc n) h {a} p = h n (foldBelow n f a) (omega arith) (fold-keeps f P n (λ k b l. h k b (omega arith)) p)
 
+-- a fold goes by its function below the bound alone
+pub fold-same : {A : Type 0} (f g : ℕ → A → A) (n : ℕ) → ((k : ℕ) → k < n → (a : A) → f k a ≡ g k a) → (a : A) → foldBelow n f a ≡ foldBelow n g a
+unfolding foldBelow
+fold-same f g zero h a = refl
+fold-same f g (suc n) h a = ap (f n) (fold-same f g n (λ k l. h k (omega arith)) a) ∙ h n (omega arith) _
+
 -- lists made of f
 
 pub length-listBelow : {A : Type 0} (n : ℕ) (f : ℕ → A) → length (listBelow n f) ≡ n
@@ -192,6 +198,12 @@ list-append (suc a) b g = simp suc-add (ap (_∷_ (g 0)) (list-append a b (λ k.
 pub list-next : {A : Type 0} (n : ℕ) (f : ℕ → A) → listBelow n f ++ (f n ∷ []) ≡ listBelow (n + 1) f
 unfolding listBelow
 list-next n f = ap (λ (x : ℕ). listBelow n f ++ (f x ∷ [])) (sym (add-zero n)) ∙ sym (list-append n 1 f)
+
+-- a join goes by its lists below the bound alone
+pub join-same : {A : Type 0} (n : ℕ) (f g : ℕ → List A) → ((i : ℕ) → i < n → f i ≡ g i) → joinBelow n f ≡ joinBelow n g
+unfolding joinBelow
+join-same zero f g h = refl
+join-same (suc n) f g h = rw (join-same n f g (λ i l. h i (omega arith)), h n (omega arith)) refl
 
 -- lists joined, of which list i has w i entries
 

@@ -54,7 +54,7 @@ use Rattle.report.specs.Calls as calls
 use Rattle.book.specs.Book.{Call, initiate, generate, terminate, Book}
 use Rattle.book.specs.Demand.{answer, reads, taken}
 use Rattle.book.proofs.Calls.{callOf, Tracks}
-use Rattle.every_total.specs.Calls.{breakAfter, rowsAfter, foots}
+use Rattle.every_total.specs.Calls.{rowsAfter, foots}
 use Rattle.every_total.proofs.Dues.{lastOf}
 
 -- no last row, no rows

@@ -9,8 +9,7 @@ use borrow.Author.Tests.{eqb-true, eqb-false, ltb-true}
 use lib.Dec.{eqb, ltb}
 use lib.IntN.{ℤ, pos}
 use lib.ListN.{getD}
-use Rattle.counts.specs.Below.{foldBelow}
-use Rattle.counts.proofs.Laws.{by-test, and-l, and-r, all-at}
+use Rattle.counts.proofs.Laws.{by-test, and-l, and-r, all-at, fold-same}
 use Rattle.tables.specs.Kinds.{sourceLiteral, sourceField, sourcePage, sourceLine, sourceSum}
 use Rattle.tables.specs.declared.Head.{Head}
 use Rattle.tables.specs.declared.Item.{Item}
@@ -28,11 +27,6 @@ use Rattle.due_text.specs.Bytes.{Reading, reading, inputsOf, viewOf}
 use Rattle.due_text.proofs.Bytes.{GroupsIn, none, more}
 use Rattle.every_total.proofs.Dues.{Each, none, more}
 use Rattle.book.specs.Sheet.{recordsFrom, sheetOf}
-
-fold-same : {A : Type 0} (f g : ℕ → A → A) (n : ℕ) → ((j : ℕ) → j < n → (a : A) → f j a ≡ g j a) → (a : A) → foldBelow n f a ≡ foldBelow n g a
-unfolding foldBelow
-fold-same f g zero e a = refl
-fold-same f g (suc n) e a = ap (f n) (fold-same f g n (λ j l. e j (omega arith)) a) ∙ e n (omega arith) _
 
 module _ (h : Head) (t chars : List ℕ) (d7 : ruleD7 h t chars ≡ true) where
   item-ok : (g k m : ℕ) → g < h .groups → k < lineCount h t g → m < itemCount h t (firstLine h t g + k) → itemOk h t g (firstLine h t g + k) m ≡ true

@@ -6,19 +6,14 @@ use lib.Dec.{leb}
 use Rattle.tables.specs.declared.Head.{Head}
 use Rattle.counters.specs.Addends.{counterLevel}
 use Rattle.rows.specs.Breaks.{breakLevel}
-use Rattle.explained.specs.Explained.{Row}
+use Rattle.explained.specs.Explained.{Row, breakAfter}
 use Rattle.book.specs.Book.{Call, initiate, generate, terminate}
 
 module _ (h : Head) (t : List ℕ) where
-  -- the level of the break that a row makes against the last row, as the book finds it; the number of controls where it makes none
-  abbrev pub breakAfter : List Row → List ℕ → ℕ
-  breakAfter [] bytes = h .controls
-  breakAfter (r ∷ rs) bytes = breakLevel h t (r .bytes) bytes
-
   -- the rows of the report after an accepted call, newest first; INITIATE begins afresh, and after TERMINATE there is no report
   abbrev pub rowsAfter : List Row → Call → List Row
   rowsAfter rows initiate = []
-  rowsAfter rows (generate detail bytes) = record { detail = detail; bytes = bytes; level = breakAfter rows bytes } ∷ rows
+  rowsAfter rows (generate detail bytes) = record { detail = detail; bytes = bytes; level = breakAfter h t rows bytes } ∷ rows
   rowsAfter rows terminate = []
 
   -- the footing of counter k has its turn: "On a break at level b: CFs from junior up to b"; TERMINATE "when running: break at level 0, all CFs"

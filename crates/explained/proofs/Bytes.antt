@@ -14,10 +14,10 @@ use Rattle.tables.specs.declared.Head.{Head}
 use Rattle.rows.specs.Fields.{formed}
 use Rattle.explained.specs.declared.Account.{Account}
 use Rattle.explained.specs.declared.Entered.{Entered}
-use Rattle.explained.specs.Explained.{Row}
+use Rattle.explained.specs.Explained.{Row, breakAfter}
 use Rattle.explained.specs.Account.{entered, rowAt, goes, next, enteredUpto, sound, begun, enteredAll}
 use Rattle.explained.specs.Entering.{Described}
-use Rattle.explained.specs.Report.{breakOn, Made, accountOf, Tells, bytesOf, Continues}
+use Rattle.explained.specs.Report.{Made, accountOf, Tells, bytesOf, Continues}
 use Rattle.explained.proofs.Rows.{last-row}
 use Rattle.explained.proofs.Total.{account-explains}
 
@@ -31,7 +31,7 @@ module _ (h : Head) (t : List ℕ) (k detail : ℕ) (bytes : List ℕ) where
     -- one row more
     module _ (x : Entered) (g : goes h t bytes x ≡ true) (c : Continues h t k detail old bytes x) where
       abbrev row : Row
-      row = record { detail = detail; bytes = rowAt h bytes (x .done); level = breakOn h t (c .fresh ++ old) (rowAt h bytes (x .done)) }
+      row = record { detail = detail; bytes = rowAt h bytes (x .done); level = breakAfter h t (c .fresh ++ old) (rowAt h bytes (x .done)) }
 
       left : x .done + h .reclen ≤ length bytes
       left = leb-true _ _ (and-l (leb (x .done + h .reclen) (length bytes)) (formed h t (rowAt h bytes (x .done))) g)

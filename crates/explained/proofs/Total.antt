@@ -30,10 +30,10 @@ use Rattle.routes.specs.Over.{summed, overRoutes}
 use Rattle.routes.proofs.Over.{summed-same}
 use Rattle.state.proofs.Kept.{padded-controls}
 use Rattle.explained.specs.declared.Account.{Account}
-use Rattle.explained.specs.Explained.{Row, added, amount, worth, since, explained}
+use Rattle.explained.specs.Explained.{Row, breakAfter, added, amount, worth, since, explained}
 use Rattle.explained.specs.Account.{residue, amountBits, worthBits, breakBehind, withRow, entered}
 use Rattle.explained.specs.Entering.{Described}
-use Rattle.explained.specs.Report.{breakOn, Behind, Made, accountOf, Tells}
+use Rattle.explained.specs.Report.{Behind, Made, accountOf, Tells}
 use Rattle.explained.proofs.Residue.{residue-add, residue-added, residue-bits, exact}
 
 -- ---- one more row, by whether its break resets the counter
@@ -79,8 +79,8 @@ module _ (h : Head) (t : List ℕ) (d : Described h t) where
   behind n last bytes z = rw (ne-eqb n 0 z) refl
 
   break-same : (k : ℕ) (rs : List Row) (bytes : List ℕ) → Made h t rs → accountOf h t k rs .rows ≡ length rs
-      → breakBehind h t (accountOf h t k rs .rows) (accountOf h t k rs .last) bytes ≡ breakOn h t rs bytes
-  unfolding accountOf breakOn entered
+      → breakBehind h t (accountOf h t k rs .rows) (accountOf h t k rs .last) bytes ≡ breakAfter h t rs bytes
+  unfolding accountOf entered
   break-same k [] bytes m e = refl
   break-same k (q ∷ qs) bytes m e =
       behind _ _ bytes (λ z. let y : suc (length qs) ≡ 0 = sym e ∙ z in omega arith)

@@ -7,6 +7,7 @@ use Rattle.number.specs.Value.{numberOf}
 use Rattle.tables.specs.declared.Head.{Head}
 use Rattle.tables.specs.Table.{addendIndex}
 use Rattle.rows.specs.Fields.{fieldPart}
+use Rattle.rows.specs.Breaks.{breakLevel}
 use Rattle.sums.specs.Subtotal.{selected}
 use Rattle.footing.specs.Footing.{resets}
 use Rattle.routes.specs.Routes.{routesTo}
@@ -16,6 +17,11 @@ pub record Row : Type 0 where
   pub detail : ℕ
   pub bytes : List ℕ
   pub level : ℕ
+
+-- "the list of breaks": the level of the break that a row makes against the row before it, as the book finds it; the number of controls where it makes none
+abbrev pub breakAfter : Head → List ℕ → List Row → List ℕ → ℕ
+breakAfter h t [] bytes = h .controls
+breakAfter h t (r ∷ rs) bytes = breakLevel h t (r .bytes) bytes
 
 -- f of each entry, added up
 unfoldable pub added : {A : Type 0} → List A → (A → ℤ) → ℤ

@@ -6,22 +6,16 @@ use mathlib.Core.List.{List, [], _∷_, _++_}
 use lib.ListN.{length, take}
 use Rattle.tables.specs.declared.Head.{Head}
 use Rattle.rows.specs.Fields.{formed}
-use Rattle.rows.specs.Breaks.{breakLevel}
 use Rattle.explained.specs.declared.Account.{Account}
 use Rattle.explained.specs.declared.Entered.{Entered}
-use Rattle.explained.specs.Explained.{Row, since, explained}
+use Rattle.explained.specs.Explained.{Row, breakAfter, since, explained}
 use Rattle.explained.specs.Account.{residue, noRows, entered}
-
--- "the list of breaks": the level of the break of a row's bytes behind these rows; the first row makes none
-unfoldable pub breakOn : Head → List ℕ → List Row → List ℕ → ℕ
-breakOn h t [] bytes = h .controls
-breakOn h t (q ∷ rs) bytes = breakLevel h t (q .bytes) bytes
 
 -- a row behind these rows: well formed, and with the break that it makes
 pub record Behind (h : Head) (t : List ℕ) (rs : List Row) (r : Row) : Type 0 where
   pub long : length (r .bytes) ≡ h .reclen
   pub formed : formed h t (r .bytes) ≡ true
-  pub breaks : r .level ≡ breakOn h t rs (r .bytes)
+  pub breaks : r .level ≡ breakAfter h t rs (r .bytes)
 
 -- every row of a report
 abbrev pub Made : Head → List ℕ → List Row → Type 0

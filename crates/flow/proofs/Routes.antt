@@ -12,10 +12,11 @@ use lib.Dec.{eqb}
 use lib.IntN.{ℤ, pos, _+ℤ_, +ℤ-assoc, +ℤ-comm, +ℤ-idl, +ℤ-idr}
 use Rattle.tables.specs.declared.Head.{Head}
 use Rattle.tables.specs.Table.{firstAddend, addendCount, addendKind, addendIndex}
+use Rattle.counts.specs.Below.{joinBelow}
 use Rattle.counts.proofs.Laws.{by-test}
 use Rattle.rolling.specs.Rolling.{names}
 use Rattle.footing.specs.Footing.{resets}
-use Rattle.routes.specs.Routes.{joined, through, routes, longest, routesTo}
+use Rattle.routes.specs.Routes.{through, routes, longest, routesTo}
 use Rattle.explained.specs.Explained.{Row, added, amount, worth, since, explained}
 use Rattle.flow.proofs.Sum.{sumZ, sum-same, sum-add}
 use Rattle.flow.proofs.Flow.{named, full, named-same}
@@ -29,10 +30,10 @@ unfolding added
 added-append f [] y = sym (+ℤ-idl (added y f))
 added-append f (a ∷ x) y = ap (λ (z : ℤ). f a +ℤ z) (added-append f x y) ∙ sym (+ℤ-assoc (f a) (added x f) (added y f))
 
-added-joined : (f : ℕ → ℤ) (n : ℕ) (l : ℕ → List ℕ) → added (joined n l) f ≡ sumZ n (λ j. added (l j) f)
-unfolding added joined sumZ
+added-joined : (f : ℕ → ℤ) (n : ℕ) (l : ℕ → List ℕ) → added (joinBelow n l) f ≡ sumZ n (λ j. added (l j) f)
+unfolding added joinBelow sumZ
 added-joined f zero l = refl
-added-joined f (suc n) l = added-append f (joined n l) (l n) ∙ ap (λ (z : ℤ). z +ℤ added (l n) f) (added-joined f n l)
+added-joined f (suc n) l = added-append f (joinBelow n l) (l n) ∙ ap (λ (z : ℤ). z +ℤ added (l n) f) (added-joined f n l)
 
 one-or : (b : Bool) (a : ℕ) (x : List ℕ) (f : ℕ → ℤ) → added (cond b (a ∷ []) x) f ≡ cond b (f a) (added x f)
 unfolding added

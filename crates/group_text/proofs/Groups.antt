@@ -15,6 +15,12 @@ use Rattle.line_text.specs.Facts.{LineIn, ItemsIn}
 use Rattle.line_text.proofs.Lines.{length-lineBytes}
 use Rattle.group_text.specs.Groups.{joinFrom, ownBytes, groupBytes}
 
+-- records joined go by those below the bound alone
+pub join-same : (f g : ℕ → List ℕ) (n k : ℕ) → ((j : ℕ) → j < k + n → f j ≡ g j) → joinFrom n k f ≡ joinFrom n k g
+unfolding joinFrom
+join-same f g zero k h = refl
+join-same f g (suc n) k h = rw (h k (omega arith), join-same f g n (k + 1) (λ j l. h j (omega arith))) refl
+
 module _ (f : ℕ → List ℕ) where
   -- what is left at index k of n
   join-by : (m n k : ℕ) → n - k ≡ m → k < n → joinFrom m k f ≡ f k ++ joinFrom (n - (k + 1)) (k + 1) f

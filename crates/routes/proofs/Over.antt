@@ -9,11 +9,11 @@ use native.Mathlib.Nat.{add-zero, le-antisymm, mod-mod, add-mod, mod-add-mod}
 use native.Mathlib.Numerals.{add-one}
 use native.Mathlib.Omega.{arith}
 use lib.Dec.{eqb}
-use Rattle.counts.specs.Below.{sumBelow}
+use Rattle.counts.specs.Below.{sumBelow, joinBelow}
 use Rattle.tables.specs.Kinds.{addendField, addendCounter}
 use Rattle.tables.specs.declared.Head.{Head}
 use Rattle.tables.specs.Table.{firstAddend, addendCount, addendKind, addendIndex}
-use Rattle.routes.specs.Routes.{joined, through, routes, routesTo}
+use Rattle.routes.specs.Routes.{through, routes, routesTo}
 use Rattle.routes.specs.Facts.{addendOf, index, Counters}
 use Rattle.routes.specs.Over.{summed, overRoutes, valueIn, brings, broughtTo}
 use Rattle.routes.proofs.Whole.{routes-step}
@@ -23,10 +23,10 @@ unfolding summed
 summed-append [] b f = omega arith
 summed-append (x ∷ a) b f = let e = summed-append a b f in omega arith
 
-pub summed-joined : (n : ℕ) (g : ℕ → List ℕ) (f : ℕ → ℕ) → summed (joined n g) f ≡ sumBelow n (λ j. summed (g j) f)
-unfolding joined summed sumBelow
+pub summed-joined : (n : ℕ) (g : ℕ → List ℕ) (f : ℕ → ℕ) → summed (joinBelow n g) f ≡ sumBelow n (λ j. summed (g j) f)
+unfolding joinBelow summed sumBelow
 summed-joined zero g f = refl
-summed-joined (suc n) g f = summed-append (joined n g) (g n) f ∙ ap (λ (x : ℕ). x + summed (g n) f) (summed-joined n g f)
+summed-joined (suc n) g f = summed-append (joinBelow n g) (g n) f ∙ ap (λ (x : ℕ). x + summed (g n) f) (summed-joined n g f)
 
 pub sum-same-below : (n : ℕ) (f g : ℕ → ℕ) → ((j : ℕ) → j < n → f j ≡ g j) → sumBelow n f ≡ sumBelow n g
 unfolding sumBelow

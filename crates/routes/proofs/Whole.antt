@@ -8,24 +8,21 @@ use mathlib.Core.Logic.{⊎-elim}
 use native.Mathlib.Nat.{not-suc-le-zero}
 use native.Mathlib.Omega.{arith}
 use lib.Dec.{eqb}
+use Rattle.counts.specs.Below.{joinBelow}
+use Rattle.counts.proofs.Laws.{join-same}
 use Rattle.tables.specs.Kinds.{addendField, addendCounter}
 use Rattle.tables.specs.declared.Head.{Head}
 use Rattle.tables.specs.Table.{firstAddend, addendCount, addendKind}
-use Rattle.routes.specs.Routes.{joined, through, routes, longest, routesTo}
+use Rattle.routes.specs.Routes.{through, routes, longest, routesTo}
 use Rattle.routes.specs.Facts.{addendOf, index, Counters}
 use Rattle.routes.proofs.Rank.{rank, rank-falls, rank-below}
-
-pub joined-same : (n : ℕ) (f g : ℕ → List ℕ) → ((j : ℕ) → j < n → f j ≡ g j) → joined n f ≡ joined n g
-unfolding joined
-joined-same zero f g e = refl
-joined-same (suc n) f g e = rw (joined-same n f g (λ j l. e j (omega arith)), e n (omega arith)) refl
 
 module _ (h : Head) (t : List ℕ) (c : Counters h t) where
   routes-more : (m k : ℕ) → k < h .counters → rank h t k < m → routes h t m k ≡ routes h t (suc m) k
   unfolding routes
   routes-more zero k l r = absurd (not-suc-le-zero r)
   routes-more (suc m) k l r =
-      joined-same (addendCount h t k) (λ j. through h t (routes h t m) (firstAddend h t k + j)) (λ j. through h t (routes h t (suc m)) (firstAddend h t k + j))
+      join-same (addendCount h t k) (λ j. through h t (routes h t m) (firstAddend h t k + j)) (λ j. through h t (routes h t (suc m)) (firstAddend h t k + j))
       (λ j b.
       ⊎-elim (λ (e : addendKind h t (addendOf h t k j) ≡ addendField). rw e refl)
       (λ (e : addendKind h t (addendOf h t k j) ≡ addendCounter).
@@ -42,6 +39,6 @@ module _ (h : Head) (t : List ℕ) (c : Counters h t) where
       rw e (sym (routes-more (i + longest h) k l (omega (arith, rank-below h t c k l))) ∙ routes-whole i k l)
 
   -- the routes to a counter: its field addends, and the routes to the counters that it names
-  pub routes-step : (k : ℕ) → k < h .counters → routesTo h t k ≡ joined (addendCount h t k) (λ j. through h t (routesTo h t) (firstAddend h t k + j))
+  pub routes-step : (k : ℕ) → k < h .counters → routesTo h t k ≡ joinBelow (addendCount h t k) (λ j. through h t (routesTo h t) (firstAddend h t k + j))
   unfolding routes
   routes-step k l = routes-more (longest h) k l (rank-below h t c k l)

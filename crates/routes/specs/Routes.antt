@@ -3,16 +3,11 @@ use Prim.Native.Nat.{ℕ, zero, suc, _+_, _*_}
 use mathlib.Core.Bool.{Bool, cond, _||_}
 use mathlib.Core.List.{List, [], _∷_, _++_}
 use lib.Dec.{leb, eqb}
-use Rattle.counts.specs.Below.{allBelow}
+use Rattle.counts.specs.Below.{allBelow, joinBelow}
 use Rattle.tables.specs.Kinds.{addendField}
 use Rattle.tables.specs.declared.Head.{Head}
 use Rattle.tables.specs.Table.{resetLevel, firstAddend, addendCount, addendKind, addendIndex}
 use Rattle.counters.specs.Addends.{counterLevel}
-
--- f at 0, 1, .. n - 1, joined
-unfoldable pub joined : ℕ → (ℕ → List ℕ) → List ℕ
-joined zero f = []
-joined (suc n) f = joined n f ++ f n
 
 -- addend a begins a route where it names a field; where it names a counter, the routes to that counter go on through it
 abbrev pub through : Head → List ℕ → (ℕ → List ℕ) → ℕ → List ℕ
@@ -22,7 +17,7 @@ through h t routesTo a = cond (eqb (addendKind h t a) addendField) (a ∷ []) (r
 -- most n addends
 unfoldable pub routes : Head → List ℕ → ℕ → ℕ → List ℕ
 routes h t zero k = []
-routes h t (suc n) k = joined (addendCount h t k) (λ j. through h t (routes h t n) (firstAddend h t k + j))
+routes h t (suc n) k = joinBelow (addendCount h t k) (λ j. through h t (routes h t n) (firstAddend h t k + j))
 
 -- no route is longer: from a counter it goes on to one of a more senior level, or to a later one of the same level
 abbrev pub longest : Head → ℕ
