@@ -1,33 +1,58 @@
-// The thin program's arguments and files: usage, help, failures told on standard error.
+// The arguments and files of the thin programs: usage, help, failures told on standard error.
 ghost use Prim.Native.Nat.{_≤_};
 ghost use lib.ListN.{length};
 ghost use Rattle.io.specs.Counts.{Counts};
 use libc::STDERR_FILENO;
 use libc::STDIN_FILENO;
 use libc::STDOUT_FILENO;
+use words::Program;
 
-fn usage(fd: i32) {
-    io::write_all(fd, b"usage: sheet [--progress] DESCRIPTION RECORDS|-\n");
+fn usage(p: Program, fd: i32) {
+    match p {
+        Program::Sheet => {
+            io::write_all(fd, b"usage: sheet [--progress] DESCRIPTION RECORDS|-\n");
+        }
+        Program::Explain => {
+            io::write_all(
+                fd,
+                b"usage: explain [--short] [--progress] DESCRIPTION RECORDS PAGE LINE\n",
+            );
+        }
+    }
 }
 
-fn help(fd: i32) {
-    usage(fd);
+fn sheet_help(fd: i32) {
     io::write_all(
         fd,
         b"\nPrints the sheet of a record file: INITIATE, GENERATE every record as detail 0, TERMINATE. A refused call is told on\nstandard error and ends the sheet; what was accepted before stands. Rows count from 1, fields and bytes from 0.\n\n  -           take the records from standard input; the lines of a row are written before more is read\n              (a file of this name is ./-)\n  --progress  tell on standard error how many rows are done\n  --help      print this\n",
     );
 }
 
+fn explain_help(fd: i32) {
+    io::write_all(
+        fd,
+        b"\nTells where each sum on a line of the sheet comes from. PAGE and LINE are those that the line was printed with: its\nfirst six and its next three digits. The records are those of the whole file, as detail 0. For each sum: the routes by\nwhich a field counts, the rows that make it up, and their total, worked out from the rows alone. Rows count from 1,\nfields, counters, controls and levels from 0, columns from 1.\n\n  --short     print no routes and no rows, only how many rows there are and their total\n  --progress  tell on standard error how many rows are done\n  --help      print this\n",
+    );
+}
+
+fn help(p: Program, fd: i32) {
+    usage(p, fd);
+    match p {
+        Program::Sheet => sheet_help(fd),
+        Program::Explain => explain_help(fd),
+    }
+}
+
 // A system call failed on something.
-fn failure(what: &[u8]) {
-    words::say(b"sheet: ");
+pub fn failure(p: Program, what: &[u8]) {
+    words::name(p);
     os::fail(what);
 }
 
 // How many rows are done, where that is asked for and there are any.
-pub fn progress(is_asked: bool, rows: u64) {
+pub fn progress(p: Program, is_asked: bool, rows: u64) {
     if is_asked & (rows > 0) {
-        words::say(b"sheet: ");
+        words::name(p);
         words::say_number(rows);
         words::say(b" rows\n");
     }
@@ -67,42 +92,42 @@ fn is_option(i: usize) -> bool {
 }
 
 // Whether help is asked for, which is then printed.
-pub fn is_helped() -> bool {
+pub fn is_helped(p: Program) -> bool {
     let is_asked = is_word(1, b"--help") | is_word(1, b"-h");
     if is_asked {
-        help(STDOUT_FILENO);
+        help(p, STDOUT_FILENO);
     }
     is_asked
 }
 
-// Whether two files are named from argument `first` on; else the usage is told.
-pub fn is_usable(first: usize) -> bool {
-    let is_right = (os::arg_count() == std::num::wrapping_add_usize(first, 2)) & !is_option(first);
+// Whether there are `n` arguments from argument `first` on; else the usage is told.
+pub fn is_usable(p: Program, first: usize, n: usize) -> bool {
+    let is_right = (os::arg_count() == std::num::wrapping_add_usize(first, n)) & !is_option(first);
     if !is_right {
-        usage(STDERR_FILENO);
+        usage(p, STDERR_FILENO);
     }
     is_right
 }
 
 // ---- files
 // Opens a file for reading; tells where it cannot.
-pub fn opened(path: &[u8]) -> i32 {
+pub fn opened(p: Program, path: &[u8]) -> i32 {
     let fd = os::open_read(path);
     if fd < 0 {
-        failure(path);
+        failure(p, path);
     }
     fd
 }
 
 // Whether reading failed, which is told: so many bytes were read before. A file that is read to its end answers 0 once more.
-pub fn is_unreadable(got: usize, fd: i32, path: &[u8]) -> bool {
+pub fn is_unreadable(p: Program, got: usize, fd: i32, path: &[u8]) -> bool {
     if got > 0 {
         return false;
     }
     let mut one = [0u8; 1];
     let is_broken = libc::read(fd, &mut one) < 0;
     if is_broken {
-        failure(path);
+        failure(p, path);
     }
     is_broken
 }
@@ -129,7 +154,7 @@ pub fn read_piece(buffer: &mut [u8]) -> Piece
     let got = libc::read(STDIN_FILENO, buffer);
     let is_broken = got < 0;
     if is_broken {
-        failure(b"standard input");
+        failure(Program::Sheet, b"standard input");
     }
     Piece {
         count: io::count(got, buffer),
@@ -138,12 +163,12 @@ pub fn read_piece(buffer: &mut [u8]) -> Piece
 }
 
 // Writes what waits; answers whether it could, and tells where not.
-pub fn flush(out: &[u8], waiting: usize) -> bool
+pub fn flush(p: Program, out: &[u8], waiting: usize) -> bool
     requires { ⌜ waiting ≤ length (now out) ⌝ }
 {
     let is_written = io::write_all(STDOUT_FILENO, &out[..waiting]);
     if !is_written {
-        failure(b"standard output");
+        failure(p, b"standard output");
     }
     is_written
 }

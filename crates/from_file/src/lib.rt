@@ -5,6 +5,7 @@ ghost use lib.ListN.{length};
 use printing::Records;
 use printing::Sheet;
 use stream::Run;
+use words::Program;
 
 // ---- the rows
 // Prints the records in hand, as far as they are accepted.
@@ -81,7 +82,7 @@ fn print_sheet(d: &[u8], fd: i32, path: &[u8], progress: bool, buffer: &mut [u8]
 
 // The sheet of a record file, by its path.
 pub fn print_named(d: &[u8], path: &[u8], progress: bool, out: &mut [u8]) {
-    let fd = console::opened(path);
+    let fd = console::opened(Program::Sheet, path);
     if fd < 0 {
         return;
     }

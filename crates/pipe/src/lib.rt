@@ -6,6 +6,7 @@ use feeder::Fed;
 use feeder::Feeder;
 use feeder::FeederVerdict;
 use verdict::Verdict;
+use words::Program;
 
 // Progress is told where the count of rows passes a multiple of this, so that small pieces do not flood.
 const STEP: u64 = 1000;
@@ -81,12 +82,12 @@ fn rows_in(d: &[u8], held: u16, taken: usize, left: u16) -> u64 {
 fn goes_on(d: &[u8], rows: u64, v: FeederVerdict, count: usize, out: &[u8]) -> bool
     requires { ⌜ count ≤ length (now out) ⌝ }
 {
-    if !console::flush(out, count) {
+    if !console::flush(Program::Sheet, out, count) {
         return false;
     }
     let is_last = is_end(v, count);
     if is_last {
-        words::at_row(rows);
+        words::at_row(Program::Sheet, rows);
         refusal(d, v);
     }
     !is_last
@@ -132,7 +133,7 @@ fn told(progress: bool, last: u64, rows: u64) -> u64 {
     if rows / STEP == last / STEP {
         return last;
     }
-    console::progress(progress, rows);
+    console::progress(Program::Sheet, progress, rows);
     rows
 }
 
@@ -191,7 +192,7 @@ fn begun(d: &[u8], progress: bool) -> Piped
     let v = a.verdict;
     let is_accepted = v.number() == 0;
     if !is_accepted {
-        words::say(b"sheet: ");
+        words::name(Program::Sheet);
         refusal(d, v);
     }
     Piped {
@@ -209,8 +210,8 @@ fn begun(d: &[u8], progress: bool) -> Piped
 // A refused TERMINATE: at the row that was cut off, if there is one.
 fn refused_end(d: &[u8], rows: u64, v: FeederVerdict) {
     match v {
-        FeederVerdict::Unfinished(_) => words::at_row(rows),
-        _ => words::at_terminate(),
+        FeederVerdict::Unfinished(_) => words::at_row(Program::Sheet, rows),
+        _ => words::at_terminate(Program::Sheet),
     }
     refusal(d, v);
 }
@@ -221,7 +222,7 @@ fn end(d: &[u8], rows: u64, f: Feeder, out: &mut [u8]) {
     let a = f.terminate(d, out);
     let v = a.verdict;
     if v.number() == 0 {
-        console::flush(out, counts::least(a.count, room));
+        console::flush(Program::Sheet, out, counts::least(a.count, room));
     } else {
         refused_end(d, rows, v);
     }
@@ -230,7 +231,7 @@ fn end(d: &[u8], rows: u64, f: Feeder, out: &mut [u8]) {
 // Where the sheet is whole so far, tells the count of rows and ends the report.
 fn finish(d: &[u8], s: Piped, out: &mut [u8]) {
     if s.whole {
-        console::progress(s.progress & (s.rows != s.told), s.rows);
+        console::progress(Program::Sheet, s.progress & (s.rows != s.told), s.rows);
         let f = s.feeder;
         end(d, s.rows, f, out);
     }

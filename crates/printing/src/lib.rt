@@ -6,6 +6,7 @@ use report::Report;
 use state::State;
 use stream::Run;
 use verdict::Verdict;
+use words::Program;
 
 // Where the sheet stands: output bytes that wait to be written, the record bytes in hand (from, to), rows accepted,
 // whether there is more to do, whether the sheet is whole so far, and the state.
@@ -50,8 +51,8 @@ fn end_at(d: &[u8], bytes: usize, v: Verdict, s: Sheet, out: &[u8]) -> Sheet
     requires { ⌜ s .waiting ≤ length (now out) ⌝ }
     ensures { λ r. ⌜ (r .waiting ≡ 0) × (r .from ≡ s .from) × (r .to ≡ s .to) ⌝ }
 {
-    if console::flush(out, s.waiting) {
-        words::at_row(s.rows);
+    if console::flush(Program::Sheet, out, s.waiting) {
+        words::at_row(Program::Sheet, s.rows);
         words::refusal(d, bytes, v);
     }
     let state = s.state;
@@ -74,7 +75,7 @@ fn make_room(d: &[u8], size: usize, v: Verdict, s: Sheet, out: &[u8]) -> Sheet
     if s.waiting == 0 {
         return end_at(d, size, v, s, out);
     }
-    let is_written = console::flush(out, s.waiting);
+    let is_written = console::flush(Program::Sheet, out, s.waiting);
     let state = s.state;
     Sheet {
         state,
@@ -100,10 +101,10 @@ fn next_part(path: &[u8], records: Records, s: Sheet, buffer: &mut [u8], out: &[
     requires { ⌜ (records .part ≤ length (now buffer)) × (s .waiting ≤ length (now out)) ⌝ }
     ensures { λ r. ⌜ (r .waiting ≡ 0) × (r .from ≡ 0) × (r .to ≤ length (now (buffer .entry))) ⌝ }
 {
-    console::progress(records.progress, s.rows);
-    let is_written = console::flush(out, s.waiting);
+    console::progress(Program::Sheet, records.progress, s.rows);
+    let is_written = console::flush(Program::Sheet, out, s.waiting);
     let to = console::read_part(records.fd, records.part, buffer);
-    let is_broken = console::is_unreadable(to, records.fd, path);
+    let is_broken = console::is_unreadable(Program::Sheet, to, records.fd, path);
     let state = s.state;
     Sheet {
         waiting: 0,
@@ -182,15 +183,15 @@ fn terminated(d: &[u8], state: State, out: &mut [u8]) -> Ended
 pub fn finish(d: &[u8], s: Sheet, out: &mut [u8])
     requires { ⌜ s .waiting ≤ length (now out) ⌝ }
 {
-    let is_written = console::flush(out, s.waiting);
+    let is_written = console::flush(Program::Sheet, out, s.waiting);
     if is_written & s.whole {
         let state = s.state;
         let e = terminated(d, state, out);
         let v = e.verdict;
         if v.number() == 0 {
-            console::flush(out, e.count);
+            console::flush(Program::Sheet, out, e.count);
         } else {
-            words::at_terminate();
+            words::at_terminate(Program::Sheet);
             words::refusal(d, 0, v);
         }
     }
@@ -208,7 +209,7 @@ pub fn initiated(d: &[u8]) -> Sheet
     let v = a.verdict;
     let is_accepted = v.number() == 0;
     if !is_accepted {
-        words::say(b"sheet: ");
+        words::name(Program::Sheet);
         words::refusal(d, 0, v);
     }
     Sheet {

@@ -1,4 +1,5 @@
 // The thin program: INITIATE, GENERATE every record of a file or a pipe as detail 0, TERMINATE; the sheet goes to standard output.
+use words::Program;
 
 // A description that keeps D1 has at most 12,928 bytes, so a longer file breaks it whatever the rest.
 const DESCRIPTION_ROOM: usize = 16_384;
@@ -19,13 +20,13 @@ fn print_records(d: &[u8], path: &[u8], progress: bool) {
 
 // The description and the records, each by its path.
 fn print_files(description: &[u8], records: &[u8], progress: bool) {
-    let fd = console::opened(description);
+    let fd = console::opened(Program::Sheet, description);
     if fd < 0 {
         return;
     }
     let mut d = [0u8; DESCRIPTION_ROOM];
     let n = io::read_full(fd, &mut d);
-    if console::is_unreadable(0, fd, description) {
+    if console::is_unreadable(Program::Sheet, 0, fd, description) {
         return;
     }
     libc::close(fd);
@@ -42,12 +43,12 @@ fn print_arguments(first: usize, progress: bool) {
 }
 
 fn main() {
-    if console::is_helped() {
+    if console::is_helped(Program::Sheet) {
         return;
     }
     let progress = console::is_word(1, b"--progress");
     let first = 1 + counts::one_if(progress);
-    if console::is_usable(first) {
+    if console::is_usable(Program::Sheet, first, 2) {
         print_arguments(first, progress);
     }
 }

@@ -3,6 +3,12 @@ ghost use Prim.Native.Nat.{_≤_};
 use libc::STDERR_FILENO;
 use verdict::Verdict;
 
+// The programs: each begins what it tells with its name.
+pub enum Program {
+    Sheet,
+    Explain,
+}
+
 pub fn say(text: &[u8]) {
     io::write_all(STDERR_FILENO, text);
 }
@@ -11,17 +17,26 @@ pub fn say_number(n: u64) {
     io::print_decimal(STDERR_FILENO, n);
 }
 
+pub fn name(p: Program) {
+    match p {
+        Program::Sheet => say(b"sheet: "),
+        Program::Explain => say(b"explain: "),
+    }
+}
+
 // ---- a refusal: where, what, and its numbers
 // The place of a refused row: so many were accepted before it.
-pub fn at_row(rows: u64) {
-    say(b"sheet: row ");
+pub fn at_row(p: Program, rows: u64) {
+    name(p);
+    say(b"row ");
     say_number(std::num::wrapping_add_u64(rows, 1));
     say(b": ");
 }
 
 // The place of a refused TERMINATE.
-pub fn at_terminate() {
-    say(b"sheet: TERMINATE: ");
+pub fn at_terminate(p: Program) {
+    name(p);
+    say(b"TERMINATE: ");
 }
 
 // What a rule of a description is about.

@@ -1,0 +1,3 @@
+-- The laws of looking for a line.
+pub mod Looking
+pub mod Tests

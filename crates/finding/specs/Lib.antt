@@ -1,0 +1,2 @@
+-- Which footing prints a line.
+pub mod Finding
