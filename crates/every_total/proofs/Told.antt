@@ -81,10 +81,11 @@ module _ (d : List ℕ) (accepts : checked d ≡ Accepted) where
   unfolding run
   all-told [] s b rows T m e = tt
   all-told (u ∷ us) s b rows T m e =
-      let x = did d s u in
-      (λ q few k l f.
-      account.told h t k rows _ (account.account-explains h t (described-of (explains-of d accepts)) k l rows m few) (e .0 q k l f .inside) ∙ sym (e .0 q k l f .total),
-      all-told us (x .result .answer .state) _ (rowsThen d rows x) (call-ok d accepts A s b T (u .out) (u .call) .next) (then-made rows m (u .call) (taken d (x .result)) (made-next s b T (u .out) rows m (u .call))) (e .1))
+      let x = did d s u in (
+        λ q few k l f.
+            account.told h t k rows _ (account.account-explains h t (described-of (explains-of d accepts)) k l rows m few) (e .0 q k l f .inside) ∙ sym (e .0 q k l f .total),
+        all-told us (x .result .answer .state) _ (rowsThen d rows x) (call-ok d accepts A s b T (u .out) (u .call) .next) (then-made rows m (u .call) (taken d (x .result)) (made-next s b T (u .out) rows m (u .call))) (e .1),
+      )
 
   pub every-told : plain h t ≡ true → (us : List Use) → AllTold d [] (run d (freshAt idle) us)
   every-told p us = all-told us (freshAt idle) freshBook [] (fresh-tracks d accepts A) tt (every-total d accepts p us .calls)
