@@ -19,11 +19,12 @@ pub struct Sought {
     pub key: [u8; KEY],
 }
 
-// Where the search for a line stands: whether it goes on, whether it found the line; the rows accepted before, and the state before
+// Where the search for a line stands: whether it goes on, whether it failed, whether it found the line; the rows accepted before, and the state before
 // the next call, or before the call that prints the line; of the line, where it stands in the output, and its footing.
 pub struct Search {
     pub sought: Sought,
     pub more: bool,
+    pub is_failed: bool,
     pub is_found: bool,
     pub rows: u64,
     pub state: State,
@@ -61,6 +62,7 @@ fn passed(s: Search, next: State, more: bool) -> Search {
     Search {
         sought,
         more,
+        is_failed: false,
         is_found: false,
         rows: std::num::wrapping_add_u64(s.rows, 1),
         state: next,
@@ -76,6 +78,7 @@ fn hit(s: Search, at: usize, found: Found) -> Search {
     Search {
         sought,
         more: false,
+        is_failed: false,
         is_found: true,
         rows: s.rows,
         state,
@@ -84,14 +87,15 @@ fn hit(s: Search, at: usize, found: Found) -> Search {
     }
 }
 
-// At a refused call.
-fn stopped(s: Search) -> Search {
+// At a refused call, or where the file cannot be read.
+pub fn stopped(s: Search) -> Search {
     let state = s.state;
     let found = s.found;
     let sought = s.sought;
     Search {
         sought,
         more: false,
+        is_failed: true,
         is_found: false,
         rows: s.rows,
         state,
@@ -109,6 +113,7 @@ pub fn begun(t: &[u16], h: Head, chars: &[u8], sought: Sought, out: &mut [u8]) -
     Search {
         sought,
         more: true,
+        is_failed: false,
         is_found: false,
         rows: 0,
         state,
