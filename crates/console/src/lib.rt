@@ -21,6 +21,10 @@ fn usage(p: Program, fd: i32) {
     }
 }
 
+pub fn tell_usage(p: Program) {
+    usage(p, STDERR_FILENO);
+}
+
 fn sheet_help(fd: i32) {
     io::write_all(
         fd,
@@ -104,7 +108,7 @@ pub fn is_helped(p: Program) -> bool {
 pub fn is_usable(p: Program, first: usize, n: usize) -> bool {
     let is_right = (os::arg_count() == std::num::wrapping_add_usize(first, n)) & !is_option(first);
     if !is_right {
-        usage(p, STDERR_FILENO);
+        tell_usage(p);
     }
     is_right
 }
