@@ -120,13 +120,19 @@ fn sum_is_right(told: &str, characters: &str) {
     assert_eq!(worth, total, "{told}");
     let (first, last) = (rows[0], rows[rows.len() - 1]);
     assert_eq!(rows, (first..=last).collect::<Vec<_>>());
-    let count = if first == last { format!("1 row ({first})") } else { format!("{} rows ({first} to {last})", rows.len()) };
+    let count = if first == last {
+        format!("1 row ({first})")
+    } else {
+        format!("{} rows ({first} to {last})", rows.len())
+    };
     assert!(told.contains(&format!("\n  {count}, total ")), "{told}");
 }
 
 /// The long form without its routes and rows is the short one.
 fn shortened(told: &str) -> String {
-    let kept = |line: &&str| !(line.starts_with("  field ") || line.starts_with("    ") || line.starts_with("  row "));
+    let kept = |line: &&str| {
+        !(line.starts_with("  field ") || line.starts_with("    ") || line.starts_with("  row "))
+    };
     told.lines().filter(kept).map(|line| format!("{line}\n")).collect()
 }
 
@@ -137,20 +143,26 @@ fn explains_every_total_of_the_day_sheet() {
     let mut totals = 0;
     for (page, line, characters) in lines_of(&sheet) {
         if !characters.contains(" TOTAL ") {
-            assert_eq!(explain(&[], &desc, &rows, page, line), says(&format!("page {page}, line {line} shows no sum")));
+            assert_eq!(
+                explain(&[], &desc, &rows, page, line),
+                says(&format!("page {page}, line {line} shows no sum"))
+            );
             continue;
         }
         totals += 1;
         let told = explained(&[], &desc, &rows, page, line);
         let level = 4 - characters.trim_start().chars().take_while(|&c| c == '*').count();
-        assert!(told.starts_with(&format!("page {page}, line {line}: control footing of level {level}\n")), "{told}");
+        assert!(
+            told.starts_with(&format!("page {page}, line {line}: control footing of level {level}\n")),
+            "{told}"
+        );
         assert_eq!(told.matches("\ncontrol ").count(), level + 1);
         let sums: Vec<&str> = told.split("column ").skip(1).collect();
         assert_eq!(sums.len(), 2, "{told}");
         sums.iter().for_each(|sum| sum_is_right(&format!("column {sum}"), &characters));
         assert_eq!(explained(&["--short"], &desc, &rows, page, line), shortened(&told));
     }
-    assert_eq!(totals, 92);
+    assert_eq!(totals, 83);
 }
 
 // ---- the other examples, word for word
@@ -160,7 +172,7 @@ fn explains_the_whole_run() {
     let first = "\
 page 1, line 5: control footing of level 0
 control 0 (field 0): \"AA\"
-column 6, width 4: counter 0, printed \"  12\"
+column 4, width 6: counter 0, printed \"    12\"
   field 1 counts 1 time in each row:
     field 1, counter 0
   row 1: field 1: +5, 1 time
@@ -177,10 +189,10 @@ column 6, width 4: counter 0, printed \"  12\"
 fn explains_the_pictures() {
     let till = of_example("pictures", 2, 7);
     assert!(till.contains("column 32, width 12: counter 0, printed \"************\"\n"), "{till}");
-    assert!(till.contains("  3 rows (9 to 11), total +223456889: the printed total\n") || till.contains(": the printed total\n"), "{till}");
+    assert!(till.contains("  3 rows (9 to 11), total +223456888: the printed total\n"), "{till}");
     let day = of_example("pictures", 2, 8);
     assert!(day.contains("    field 3, counter 0, counter 2\n"), "{day}");
-    assert!(day.contains("printed \"*2,233,966.05\"\n") || day.contains("*2,233,966.05\"\n"), "{day}");
+    assert!(day.contains("printed \"*2,233,966.05  \"\n"), "{day}");
     assert!(day.contains("total +223396605: the printed total\n"), "{day}");
 }
 
@@ -213,7 +225,10 @@ column 15, width 6: counter 1, printed \"    24\"
     let one = explained(&["--short"], &desc, &rows, 1, 7);
     assert!(one.ends_with("  1 row (3), total -4: the printed total\n"), "{one}");
     let day = explained(&[], &desc, &rows, 1, 8);
-    assert!(day.contains("    field 1, counter 1, counter 2\n    field 1, counter 0, counter 1, counter 2\n"), "{day}");
+    assert!(
+        day.contains("    field 1, counter 1, counter 2\n    field 1, counter 0, counter 1, counter 2\n"),
+        "{day}"
+    );
     assert!(day.ends_with("  3 rows (1 to 3), total +20: the printed total\n"), "{day}");
 }
 
@@ -267,7 +282,10 @@ fn names_the_row_that_is_refused() {
     assert_eq!(explain(&[], &desc, &rows, 2, 4), says(words));
     assert!(explained(&[], &desc, &rows, 1, 5).ends_with(": the printed total\n"));
     let cut = folder.file("cut", b"AA+005AA");
-    assert_eq!(explain(&[], &desc, &cut, 2, 4), says("row 2: the record's length is 2, not 6; refusal 5, extra number 0"));
+    assert_eq!(
+        explain(&[], &desc, &cut, 2, 4),
+        says("row 2: the record's length is 2, not 6; refusal 5, extra number 0")
+    );
 }
 
 #[test]
@@ -284,7 +302,8 @@ fn names_the_rule_that_a_description_breaks() {
 #[test]
 fn claims_nothing_outside_the_hypothesis() {
     let folder = Folder::new("explain-outside");
-    let desc = folder.file("desc", &built(&TWICE.replace("sum one\n    add field", "sum one reset FINAL\n    add field")));
+    let desc = folder
+        .file("desc", &built(&TWICE.replace("sum one\n    add field", "sum one reset FINAL\n    add field")));
     let rows = folder.file("rows", b"AA+005AA+007BB-002");
     let words = "counter 0 feeds counter 1 but is reset at level 0, senior to its own level 1: no total of this description is explained";
     for line in [5, 99] {
@@ -297,8 +316,14 @@ fn names_a_file_that_it_cannot_read() {
     let folder = Folder::new("explain-unreadable");
     let [desc, rows] = ["whole_run.desc", "whole_run.rows"].map(example);
     let none = folder.0.join("none");
-    let [not_opened, not_read] = ["explain: {file}: No such file or directory", "explain: {file}: Is a directory"];
-    let cases = [(&none, &rows, about_file(not_opened, &none)), (&desc, &none, about_file(not_opened, &none)), (&folder.0, &rows, about_file(not_read, &folder.0)), (&desc, &folder.0, about_file(not_read, &folder.0))];
+    let [not_opened, not_read] =
+        ["explain: {file}: No such file or directory", "explain: {file}: Is a directory"];
+    let cases = [
+        (&none, &rows, about_file(not_opened, &none)),
+        (&desc, &none, about_file(not_opened, &none)),
+        (&folder.0, &rows, about_file(not_read, &folder.0)),
+        (&desc, &folder.0, about_file(not_read, &folder.0)),
+    ];
     for (desc, rows, words) in cases {
         assert_eq!(explain(&[], desc, rows, 1, 5), Written::errors(words));
     }
@@ -310,7 +335,10 @@ fn says_that_it_cannot_write() {
         return;
     };
     let mut command = command();
-    command.args([example("day_sheet.desc"), example("day_sheet.rows")]).args(["7", "52"]).stdout(Stdio::from(full));
+    command
+        .args([example("day_sheet.desc"), example("day_sheet.rows")])
+        .args(["7", "52"])
+        .stdout(Stdio::from(full));
     assert_eq!(finished(command), says("standard output: No space left on device"));
 }
 
@@ -324,10 +352,25 @@ fn says_its_usage() {
         finished(command)
     };
     let usage = Written::errors(filled(USAGE, &[]));
-    for args in [&[][..], &["d", "r", "1"], &["d", "r", "1", "2", "3"], &["--fast", "d", "r", "1", "2"], &["--short", "d", "r", "1"], &["--short", "--fast", "d", "r", "1", "2"]] {
+    for args in [
+        &[][..],
+        &["d", "r", "1"],
+        &["d", "r", "1", "2", "3"],
+        &["--fast", "d", "r", "1", "2"],
+        &["--short", "d", "r", "1"],
+        &["--short", "--fast", "d", "r", "1", "2"],
+    ] {
         assert_eq!(run(args), usage, "{args:?}");
     }
-    let numbers = [("x", "1", "PAGE", 999_999, "x"), ("0", "1", "PAGE", 999_999, "0"), ("1000000", "1", "PAGE", 999_999, "1000000"), ("-1", "1", "PAGE", 999_999, "-1"), ("1", "1000", "LINE", 999, "1000"), ("1", "2x", "LINE", 999, "2x"), ("1", "", "LINE", 999, "")];
+    let numbers = [
+        ("x", "1", "PAGE", 999_999, "x"),
+        ("0", "1", "PAGE", 999_999, "0"),
+        ("1000000", "1", "PAGE", 999_999, "1000000"),
+        ("-1", "1", "PAGE", 999_999, "-1"),
+        ("1", "1000", "LINE", 999, "1000"),
+        ("1", "2x", "LINE", 999, "2x"),
+        ("1", "", "LINE", 999, ""),
+    ];
     for (page, line, name, most, text) in numbers {
         let words = format!("explain: {name} is a number from 1 to {most}, not \"{text}\"\n{USAGE}\n");
         assert_eq!(run(&["d", "r", page, line]), Written::errors(words));
@@ -355,7 +398,10 @@ fn tells_its_progress() {
 fn bin_explain_has_an_exit_status() {
     let folder = Folder::new("explain-status");
     let [desc, rows] = ["whole_run.desc", "whole_run.rows"].map(|name| example(name).display().to_string());
-    let outside = folder.file("desc", &built(&TWICE.replace("sum one\n    add field", "sum one reset FINAL\n    add field"))).display().to_string();
+    let outside = folder
+        .file("desc", &built(&TWICE.replace("sum one\n    add field", "sum one reset FINAL\n    add field")))
+        .display()
+        .to_string();
     let bad = folder.file("bad", b"AA*005").display().to_string();
     let cases: [(&[&str], i32); 10] = [
         (&[&desc, &rows, "1", "5"], 0),
@@ -390,17 +436,25 @@ fn explains_a_large_file_in_little_memory() {
     let desc = example("day_sheet.desc");
     let mut sheet = Command::new(Path::new(env!("CARGO_MANIFEST_DIR")).join("../target/bin/sheet"));
     sheet.args([&desc, &rows]);
-    let (page, line, characters) = lines_of(&finished(sheet).sheet).into_iter().rev().find(|line| line.2.contains("DAY TOTAL")).expect("a total");
+    let (page, line, characters) = lines_of(&finished(sheet).sheet)
+        .into_iter()
+        .rev()
+        .find(|line| line.2.contains("DAY TOTAL"))
+        .expect("a total");
     let mut limited = Command::new("sh");
     limited.args(["-c", "ulimit -v 16384; exec \"$@\"", "sh"]).arg(command().get_program());
     limited.arg("--short").args([&desc, &rows]).args([page.to_string(), line.to_string()]);
     let written = finished(limited);
     assert_eq!(written.errors, "");
     let told = String::from_utf8(written.sheet).expect("words");
-    let totals: Vec<&str> = told.lines().filter(|line| line.starts_with("  1000000 rows (1 to 1000000), total ")).collect();
+    let totals: Vec<&str> =
+        told.lines().filter(|line| line.starts_with("  1000000 rows (1 to 1000000), total ")).collect();
     assert_eq!(totals.len(), 2, "{told}");
     for total in totals {
         assert!(total.ends_with(": the printed total"), "{told}");
-        assert!(characters.contains(&hundredths(between(total, "total ", ":").parse().expect("a total"))), "{told}");
+        assert!(
+            characters.contains(&hundredths(between(total, "total ", ":").parse().expect("a total"))),
+            "{told}"
+        );
     }
 }
