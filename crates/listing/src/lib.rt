@@ -13,13 +13,8 @@ pub struct Listing {
     pub output: Output,
 }
 
-// The number in a field of a record, 0 where there is none.
-fn amount(t: &[u16], rec: &[u8], field: usize) -> i64
-    requires { ⌜ field < 65536 ⌝ }
-{
-    let offset = tables::field_num(t, field, 1);
-    let width = tables::field_num(t, field, 2);
-    let text = output::part(rec, offset, width);
+// The number that a text is, 0 where it is none.
+pub fn number_in(text: &[u8]) -> i64 {
     if text.len() > 18 {
         return 0;
     }
@@ -27,6 +22,15 @@ fn amount(t: &[u16], rec: &[u8], field: usize) -> i64
         return parse::number(text);
     }
     0
+}
+
+// The number in a field of a record.
+fn amount(t: &[u16], rec: &[u8], field: usize) -> i64
+    requires { ⌜ field < 65536 ⌝ }
+{
+    let offset = tables::field_num(t, field, 1);
+    let width = tables::field_num(t, field, 2);
+    number_in(output::part(rec, offset, width))
 }
 
 // x taken n times, modulo 2^64.
