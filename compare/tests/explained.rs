@@ -1,12 +1,18 @@
 //! R-6 against the second program's own explanation, by brute force over rows and routes: what the proved calls print is
-//! what they print with the explained totals in place of the sums.
+//! what they print with the explained totals in place of the sums, and the program that explains lists the same rows.
 
 mod common;
+mod program;
+
+use std::path::Path;
+use std::process::Command;
 
 use common::{both, Asked, Left};
-use second::cases::{explained_case, Case, Rng};
-use second::explain::{keeps_condition, print_explained, Explainer};
-use second::report::Answer;
+use program::{finished, random_rows, Folder};
+use second::cases::{explained_case, summing_description, Call, Case, Rng};
+use second::description::SUM;
+use second::explain::{keeps_condition, line_at, print_explained, Explainer, Explanation};
+use second::report::{generate, initiate, terminate, Answer};
 use second::state::State;
 
 const SEED: u64 = 6;
@@ -69,4 +75,126 @@ fn play_through(case: Case, counts: &mut Counts) {
 fn answer_of(left: &Left) -> Answer {
     let state = State::from_bytes(&left.state);
     Answer { number: left.number as u8, extra: left.extra as u32, count: left.count, state }
+}
+
+// ---- the program that explains, on random sheets
+
+/// Lines with sums that are asked about.
+const LINES: usize = 400;
+
+/// Of one sheet at most so many.
+const OF_A_SHEET: usize = 4;
+
+#[test]
+fn the_program_lists_the_rows_that_the_second_program_finds() {
+    let folder = Folder::new("explained");
+    let mut rng = Rng::new(SEED);
+    let (mut lines, mut sums, mut shares) = (0, 0, 0);
+    while lines < LINES {
+        let desc = summing_description(&mut rng);
+        let explainer = Explainer::new(&desc).expect("a description that is accepted");
+        if !keeps_condition(explainer.description()) {
+            continue;
+        }
+        let rows = random_rows(&mut rng, &desc);
+        let files = [folder.file("desc", &desc), folder.file("rows", &rows)];
+        for (page, line, wanted) in sum_lines(&desc, &rows, &mut rng) {
+            let mut command =
+                Command::new(Path::new(env!("CARGO_MANIFEST_DIR")).join("../target/bin/explain"));
+            command.args(&files).args([page.to_string(), line.to_string()]);
+            let written = finished(command);
+            assert_eq!(written.errors, "", "page {page}, line {line} of {desc:?}, {rows:?}");
+            assert_eq!(told(&String::from_utf8(written.sheet).expect("words")), wanted, "{desc:?}, {rows:?}");
+            lines += 1;
+            sums += wanted.len();
+            shares += wanted.iter().map(|sum| sum.rows.len()).sum::<usize>();
+        }
+    }
+    println!("{lines} lines, {sums} sums, {shares} amounts");
+}
+
+/// A sum as it is explained: its counter, the amounts (row from 1, field, amount, times) and the total.
+#[derive(Debug, PartialEq, Eq)]
+struct Sum {
+    counter: usize,
+    rows: Vec<(usize, usize, i64, usize)>,
+    total: i128,
+}
+
+fn sum_of(explanation: &Explanation) -> Sum {
+    let shares = explanation.shares.iter();
+    Sum {
+        counter: explanation.counter,
+        rows: shares.map(|share| (share.row + 1, share.field, share.amount, share.times)).collect(),
+        total: explanation.total,
+    }
+}
+
+/// Some lines with sums of a sheet, up to its first refused row, each with its sums explained by the second program.
+fn sum_lines(desc: &[u8], rows: &[u8], rng: &mut Rng) -> Vec<(u32, u32, Vec<Sum>)> {
+    let mut explainer = Explainer::new(desc).expect("a description that is accepted");
+    let length = usize::from(explainer.description().r);
+    let width = usize::from(explainer.description().w);
+    let mut state = initiate(desc, &State::fresh()).state;
+    let mut calls: Vec<Call> =
+        rows.chunks(length).map(|row| Call::Generate { d: 0, record: row.to_vec() }).collect();
+    calls.push(Call::Terminate);
+    let mut found = Vec::new();
+    let mut output = vec![0; 1 << 18];
+    for call in &calls {
+        let answer = match call {
+            Call::Generate { d, record } => generate(desc, &state, *d, record, &mut output),
+            _ => terminate(desc, &state, &mut output),
+        };
+        if answer.number != 0 {
+            break;
+        }
+        for record in output[..answer.count].chunks(width + 10) {
+            let number = |digits: &[u8]| digits.iter().fold(0, |n, &d| n * 10 + u32::from(d - b'0'));
+            let (page, line) = (number(&record[..6]), number(&record[6..9]));
+            let d = explainer.description();
+            let (_, items) = line_at(&explainer, &state, call, page, line).expect("a printed line");
+            let counters: Vec<usize> = d
+                .items_of(items)
+                .iter()
+                .filter(|item| item.source == SUM)
+                .map(|item| usize::from(item.index))
+                .collect();
+            if !counters.is_empty() {
+                let all = explainer.explain(call);
+                let of = |c: &usize| sum_of(all.iter().find(|e| e.counter == *c).expect("explained"));
+                found.push((page, line, counters.iter().map(of).collect()));
+            }
+        }
+        explainer.enter(call);
+        state = answer.state;
+    }
+    while found.len() > OF_A_SHEET {
+        let nth = rng.between(0, found.len() - 1);
+        found.swap_remove(nth);
+    }
+    found
+}
+
+/// The sums that the program tells of a line; each total is said to be the printed one.
+fn told(text: &str) -> Vec<Sum> {
+    let number = |words: &str| words.parse::<i128>().unwrap_or_else(|_| panic!("{words} in {text}"));
+    let mut sums: Vec<Sum> = Vec::new();
+    for line in text.lines() {
+        if let Some((_, rest)) = line.split_once(": counter ") {
+            let counter = number(rest.split(',').next().expect("a counter")) as usize;
+            sums.push(Sum { counter, rows: Vec::new(), total: 0 });
+        } else if let Some(rest) = line.strip_prefix("  row ") {
+            let parts: Vec<&str> = rest.split(": ").collect();
+            let (amount, times) = parts[2].split_once(", ").expect("an amount and times");
+            let row = number(parts[0]) as usize;
+            let field = number(parts[1].strip_prefix("field ").expect("a field")) as usize;
+            let times = number(times.split(' ').next().expect("times")) as usize;
+            sums.last_mut().expect("a counter").rows.push((row, field, number(amount) as i64, times));
+        } else if let Some((_, rest)) = line.split_once(", total ") {
+            let total = rest.strip_suffix(": the printed total").unwrap_or_else(|| panic!("{text}"));
+            sums.last_mut().expect("a counter").total = number(total);
+        }
+    }
+    sums
 }
