@@ -198,3 +198,79 @@ fn told(text: &str) -> Vec<Sum> {
     }
     sums
 }
+
+// ---- the Czech example
+
+/// Source document 004, 13.5.8: as `second/tests/czech.rs` builds it, with what C's clause RESET says left open.
+const CZECH: &str = "
+page 65 heading 1 first 1 last 65 footing 65
+width 87
+record 14
+field prvni text 0 1
+field druhy text 1 1
+field a number 2 4
+field b number 6 4
+field tally number 10 4
+control FINAL
+control prvni
+control druhy
+group DE
+  line relative 1
+    item 20 6 field b decimals 2
+group CF druhy
+  line relative 2
+    item 20 6 sum c decimals 2
+  sum c{reset}
+    add field a
+group CF prvni
+  line relative 2
+  sum d
+    add field b
+    add field tally
+  sum e
+    add sum c
+group CF FINAL
+  line relative 5
+    item 45 7 sum g decimals 2
+    item 60 7 sum f decimals 2
+    item 80 8 sum h decimals 2
+  sum f
+    add sum e
+    add sum d
+  sum g
+    add sum c
+  sum h
+    add sum f
+    add sum g
+";
+
+const CZECH_ROWS: &[u8] = b"XK+100+020+001XK+200+030+001XL+400+040+001YK-050+005+001YM+003+003+002";
+
+/// C feeds E and G and is reset at PRVNI, senior to its own DRUHY: told in words, and nothing is claimed. Without that clause the
+/// totals of the last line are the rows' amounts: A once in G, A once, B and TALLY once in F, A twice, B and TALLY once in H.
+#[test]
+fn the_czech_example_is_told_to_be_outside_and_without_its_reset_explained() {
+    let folder = Folder::new("explained-czech");
+    let rows = folder.file("rows", CZECH_ROWS);
+    let run = |reset: &str| {
+        let built = second::source::build(&CZECH.replace("{reset}", reset)).expect("a description");
+        let desc = folder.file("desc", &built.bytes());
+        let mut command = Command::new(Path::new(env!("CARGO_MANIFEST_DIR")).join("../target/bin/explain"));
+        command.args([&desc, &rows]).args(["1", LAST]);
+        finished(command)
+    };
+    let outside = run(" reset prvni");
+    assert!(
+        outside.errors.starts_with("explain: counter 0 feeds counter 2 but is reset at level 1"),
+        "{}",
+        outside.errors
+    );
+    assert!(outside.sheet.is_empty());
+    let within = run("");
+    assert_eq!(within.errors, "");
+    let totals: Vec<(usize, i128)> = told(&String::from_utf8(within.sheet).expect("words"))
+        .iter()
+        .map(|sum| (sum.counter, sum.total))
+        .collect();
+    assert_eq!(totals, [(4, 653), (3, 653 + 98 + 6), (5, 2 * 653 + 98 + 6)]);
+}
