@@ -1,14 +1,13 @@
 -- Laws of rows entered one behind the other: what is left gives what all of it gives.
 -- Assumes nothing.
 use Prim.Native.Nat.{ℕ, zero, suc, _+_, _-_, _%_, _^_, _≤_, _<_}
-use mathlib.Core.Path.{_≡_, refl, sym, ap, _∙_}
+use mathlib.Core.Path.{_≡_, refl, sym, _∙_}
 use mathlib.Core.Bool.{true, false, or-true}
 use mathlib.Core.List.{List}
 use native.Mathlib.Omega.{arith}
-use borrow.Author.Tests.{le-leb, lt-leb}
+use borrow.Author.Tests.{le-leb}
 use lib.Dec.{eqb}
 use lib.ListN.{length, take, drop, length-take, length-drop}
-use Rattle.file.specs.Limits.{recordMax}
 use Rattle.tables.specs.declared.Head.{Head}
 use Rattle.rows.specs.Fields.{formed}
 use Rattle.rows.specs.Facts.{Whole, Formed}

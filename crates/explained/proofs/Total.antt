@@ -1,13 +1,11 @@
 -- The account of a report's rows tells the counter's total over them, and which of them count.
 -- Assumes nothing.
-use Prim.Native.Nat.{ℕ, zero, suc, _+_, _%_, _^_, _≤_, _<_}
+use Prim.Native.Nat.{ℕ, suc, _+_, _%_, _^_, _≤_, _<_}
 use mathlib.Core.Path.{_≡_, refl, sym, ap, _∙_}
-use mathlib.Core.Bool.{Bool, true, false, cond, _&&_}
+use mathlib.Core.Bool.{Bool, true, false, cond}
 use mathlib.Core.List.{List, [], _∷_}
-use native.Mathlib.Nat.{mod-eq-of-lt}
 use native.Mathlib.Omega.{arith}
 use borrow.Author.Tests.{eq-eqb, ne-eqb, lt-ltb}
-use lib.Dec.{eqb, ltb}
 use lib.IntN.{ℤ, pos, natAbs}
 use lib.ListN.{length, length-take}
 use Rattle.counts.proofs.Laws.{by-test, all-at}
@@ -16,7 +14,7 @@ use Rattle.number.proofs.Laws.{number-inside}
 use Rattle.little_endian.specs.Sign.{bits, ofBits}
 use Rattle.tables.specs.Kinds.{addendField, kindNumber}
 use Rattle.tables.specs.declared.Head.{Head}
-use Rattle.tables.specs.Table.{fieldKind, addendCount, addendKind, addendIndex}
+use Rattle.tables.specs.Table.{fieldKind, addendKind, addendIndex}
 use Rattle.rows.specs.Fields.{fieldPart, wellFormed, formed}
 use Rattle.rows.specs.Breaks.{breakLevel}
 use Rattle.rows.specs.Facts.{Formed}
@@ -26,14 +24,14 @@ use Rattle.sums.specs.Subtotal.{selected}
 use Rattle.footing.specs.Footing.{resets}
 use Rattle.routes.specs.Routes.{longest, routesTo}
 use Rattle.routes.specs.Facts.{addendOf}
-use Rattle.routes.specs.Over.{summed, overRoutes}
+use Rattle.routes.specs.Over.{overRoutes}
 use Rattle.routes.proofs.Over.{summed-same}
 use Rattle.state.proofs.Kept.{padded-controls}
 use Rattle.explained.specs.declared.Account.{Account}
 use Rattle.explained.specs.Explained.{Row, added, amount, worth, since, explained}
 use Rattle.explained.specs.Account.{residue, amountBits, worthBits, breakBehind, withRow, entered}
 use Rattle.explained.specs.Entering.{Described}
-use Rattle.explained.specs.Report.{breakOn, Behind, Made, accountOf, Tells}
+use Rattle.explained.specs.Report.{breakOn, Made, accountOf, Tells}
 use Rattle.explained.proofs.Residue.{residue-add, residue-added, residue-bits, exact}
 
 -- ---- one more row, by whether its break resets the counter
@@ -60,13 +58,13 @@ module _ (h : Head) (t : List ℕ) (d : Described h t) where
           let l : length (fieldPart t (r .bytes) i) ≤ 18 = simp length-take (omega (arith, d .fields .narrow i (x .field is) (x .number is))) in
           residue-bits _ (number-inside _ n l)
 
-      amount-same : residue (amount h t r a) ≡ amountBits h t (r .detail) (r .bytes) a
+      pub amount-same : residue (amount h t r a) ≡ amountBits h t (r .detail) (r .bytes) a
       unfolding residue
       amount-same =
           rw (lt-ltb (addendIndex h t a) (h .fields) (x .field is), eq-eqb (fieldKind t (addendIndex h t a)) kindNumber (x .number is))
           (by-test (selected h t (r .detail) a) (λ e. rw e small) (λ e. rw e refl))
 
-    worth-same : (k : ℕ) → k < h .counters → worthBits h t k (r .detail) (r .bytes) ≡ residue (worth h t k r)
+    pub worth-same : (k : ℕ) → k < h .counters → worthBits h t k (r .detail) (r .bytes) ≡ residue (worth h t k r)
     unfolding overRoutes
     worth-same k l =
         sym

@@ -1,6 +1,6 @@
 // R-6: a total explained from the rows, by an account that goes from row to row.
 ghost use mathlib.Core.Path.{_≡_};
-ghost use mathlib.Core.Bool.{true, cond};
+ghost use mathlib.Core.Bool.{cond};
 ghost use Prim.Native.Nat.{_≤_, _<_};
 ghost use lib.ListN.{length};
 ghost use Rattle.counts.specs.Below.{listBelow};

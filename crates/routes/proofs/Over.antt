@@ -2,17 +2,15 @@
 -- Assumes nothing.
 use Prim.Native.Nat.{ℕ, zero, suc, _+_, _%_, _^_, _≤_, _<_}
 use mathlib.Core.Path.{_≡_, refl, sym, ap, _∙_}
-use mathlib.Core.Bool.{cond}
 use mathlib.Core.List.{List, [], _∷_, _++_}
 use mathlib.Core.Logic.{_⊎_, ⊎-elim}
 use native.Mathlib.Nat.{add-zero, le-antisymm, mod-mod, add-mod, mod-add-mod}
 use native.Mathlib.Numerals.{add-one}
 use native.Mathlib.Omega.{arith}
-use lib.Dec.{eqb}
 use Rattle.counts.specs.Below.{sumBelow}
 use Rattle.tables.specs.Kinds.{addendField, addendCounter}
 use Rattle.tables.specs.declared.Head.{Head}
-use Rattle.tables.specs.Table.{firstAddend, addendCount, addendKind, addendIndex}
+use Rattle.tables.specs.Table.{firstAddend, addendCount, addendKind}
 use Rattle.routes.specs.Routes.{joined, through, routes, routesTo}
 use Rattle.routes.specs.Facts.{addendOf, index, Counters}
 use Rattle.routes.specs.Over.{summed, overRoutes, valueIn, brings, broughtTo}

@@ -1,6 +1,5 @@
 // The routes of addends to the counters: values of the field addends, added up over them; which descriptions R-6 is about.
 ghost use mathlib.Core.Path.{_≡_};
-ghost use mathlib.Core.Bool.{cond};
 ghost use Prim.Native.Nat.{_+_, _<_};
 ghost use Rattle.file.specs.Number.{Reads};
 ghost use Rattle.counters.specs.Addends.{counterLevel};

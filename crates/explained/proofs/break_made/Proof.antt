@@ -1,6 +1,5 @@
 -- `explained::break_made` meets its contract: behind a row, both records are well formed.
 -- Assumes nothing.
-use mathlib.Core.Path.{_≡_, refl}
 use borrow.Author.Needs.{needs}
 use borrow.Author.Tests.{eq-eqb, ne-eqb}
 use Rattle.counts.proofs.Laws.{or-r}

@@ -1,8 +1,11 @@
 -- `explained::enter_row` meets its contract: the definition's own steps.
 -- Assumes nothing.
+use Prim.Native.Nat.{ℕ}
+use mathlib.Core.Path.{ap}
 use native.Mathlib.Omega.{arith}
 use borrow.Author.Needs.{needs}
-use Rattle.explained.specs.Account.{entered}
+use Rattle.footing.specs.Footing.{resets}
+use Rattle.explained.specs.Account.{worthBits, withRow, entered}
 use Rattle.explained.proofs.enter_row.Statement.{statement}
 use Rattle.explained.proofs.enter_row.Tie as tie
 
@@ -10,7 +13,9 @@ returns : tie.Need-returns
 unfolding entered
 returns c =
     let b = c .before .before .before in
-    rw (c .with-row .ensures, c .before .worth-bits .ensures, c .before .before .resets .ensures, b .break-made .ensures)
+    let a = b .before .before .before .before .before .args in
+    rw (c .with-row .ensures, c .before .worth-bits .ensures, c .before .before .resets .ensures)
+    (ap (λ (n : ℕ). withRow (resets (a .h) (a .t .now) n (a .k)) (worthBits (a .h) (a .t .now) (a .k) (a .detail) (a .row .now)) (a .row .now) (a .a)) (b .break-made .ensures))
 
 pub enter-row-spec : {M : Type 1} → statement M
 enter-row-spec =

@@ -3,7 +3,6 @@
 use mathlib.Core.Path.{_≡_, refl, ap, _∙_}
 use mathlib.Core.Bool.{Bool, true, false, not}
 use borrow.Author.Needs.{needs}
-use lib.Dec.{ltb}
 use Rattle.rows.proofs.Fields.{first-malformed}
 use Rattle.explained.proofs.is_formed.Statement.{statement}
 use Rattle.explained.proofs.is_formed.Tie as tie

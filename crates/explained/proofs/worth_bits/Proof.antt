@@ -1,11 +1,7 @@
 -- `explained::worth_bits` meets its contract: the addends of the counters are among those listed.
 -- Assumes nothing.
-use Prim.Native.Nat.{ℕ}
-use mathlib.Core.Path.{ap, _∙_}
 use native.Mathlib.Omega.{arith}
 use borrow.Author.Needs.{needs}
-use borrow.Author.Tests.{lt-ltb}
-use lib.ListN.{getD}
 use Rattle.explained.specs.Account.{amountBits}
 use Rattle.explained.proofs.Brought.{worth-at}
 use Rattle.explained.proofs.worth_bits.Statement.{statement}

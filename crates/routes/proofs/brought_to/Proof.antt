@@ -1,12 +1,10 @@
 -- `routes::brought_to` meets its contract. The invariant: the sum of the addends passed, modulo 2^64.
 -- Assumes nothing.
-use Prim.Native.Nat.{ℕ, _+_, _-_, _%_, _^_, _≤_}
-use mathlib.Core.Path.{_≡_, refl, ap, _∙_}
-use native.Mathlib.Nat.{le-antisymm, mod-add-mod}
+use Prim.Native.Nat.{_+_, _-_, _%_, _^_, _≤_}
+use mathlib.Core.Path.{_≡_, refl}
 use native.Mathlib.Omega.{arith}
 use borrow.Author.Needs.{needs}
 use Rattle.counts.specs.Below.{sumBelow}
-use Rattle.counts.proofs.Laws.{sum-next}
 use Rattle.routes.specs.Over.{brings, broughtTo}
 use Rattle.routes.proofs.Over.{mod-next, mod-end}
 use Rattle.routes.proofs.brought_to.Statement.{statement}

@@ -1,7 +1,6 @@
 -- `routes::find_counter` meets its contract, by the counter's level.
 -- Assumes nothing.
 use mathlib.Core.Path.{sym, _∙_}
-use native.Mathlib.Omega.{arith}
 use borrow.Author.Needs.{needs}
 use Rattle.routes.proofs.Reached.{counter-passed, counter-found}
 use Rattle.routes.proofs.find_counter.Statement.{statement}
