@@ -6,7 +6,8 @@ use std::fs::{self, File};
 use std::path::{Path, PathBuf};
 use std::process::{Command, Stdio};
 
-use program::{about_file, example, filled, finished, Folder, Written};
+use program::{about_file, example, filled, finished, random_rows, wanted, Folder, Written};
+use second::cases::{accepted_description, Rng};
 use second::source;
 
 const USAGE: &str = "usage: explain [--short] [--progress] DESCRIPTION RECORDS PAGE LINE";
@@ -421,6 +422,46 @@ fn bin_explain_has_an_exit_status() {
         assert_eq!(output.status.code(), Some(status), "{args:?}");
         assert_eq!(output.stdout.is_empty(), status != 0, "{args:?}");
     }
+}
+
+// ---- random sheets
+
+const SHEETS: usize = 60;
+
+/// Every line of random sheets: it has no sum, or the rows come to each sum on it, or the description is outside the hypothesis.
+#[test]
+fn random_totals_come_from_the_rows() {
+    let folder = Folder::new("explain-random");
+    let mut rng = Rng::new(6);
+    let mut seen = [0usize; 3];
+    for _ in 0..SHEETS {
+        let bytes = accepted_description(&mut rng);
+        let rows = random_rows(&mut rng, &bytes);
+        let sheet = wanted(&bytes, &rows).sheet;
+        let [desc, rows] = [("desc", bytes), ("rows", rows)].map(|(name, bytes)| folder.file(name, &bytes));
+        for (page, line, _) in lines_of(&sheet).into_iter().take(60) {
+            let written = explain(&["--short"], &desc, &rows, page, line);
+            let told = String::from_utf8(written.sheet).expect("words");
+            let totals = told.matches(", total ").count();
+            assert_eq!(told.matches(": the printed total\n").count(), totals, "{told}");
+            let no_sum = format!("explain: page {page}, line {line} shows no sum\n");
+            let kind = match written.errors.as_str() {
+                "" => 0,
+                words if words == no_sum => 1,
+                words => {
+                    assert!(words.ends_with(": no total of this description is explained\n"), "{words}");
+                    2
+                }
+            };
+            assert_eq!(totals > 0, kind == 0, "{told}");
+            seen[kind] += 1;
+            if kind == 2 {
+                break;
+            }
+        }
+    }
+    println!("lines explained, lines without a sum, descriptions outside: {seen:?}");
+    assert!(seen.iter().all(|&count| count >= 10), "{seen:?}");
 }
 
 // ---- a large file
