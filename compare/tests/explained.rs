@@ -8,7 +8,7 @@ use std::path::Path;
 use std::process::Command;
 
 use common::{both, Asked, Left};
-use program::{finished, random_rows, Folder};
+use program::{finished, random_rows, sheet, Folder};
 use second::cases::{explained_case, summing_description, Call, Case, Rng};
 use second::description::SUM;
 use second::explain::{keeps_condition, line_at, print_explained, Explainer, Explanation};
@@ -244,7 +244,8 @@ group CF FINAL
     add sum g
 ";
 
-const CZECH_ROWS: &[u8] = b"XK+100+020+001XK+200+030+001XL+400+040+001YK-050+005+001YM+003+003+002";
+const CZECH_ROWS: &[u8] =
+    b"XK+100+020+001XK+200+030+001XL+400+040+001YL-050+005+001YM+001+001+001YM+002+002+001";
 
 /// C feeds E and G and is reset at PRVNI, senior to its own DRUHY: told in words, and nothing is claimed. Without that clause the
 /// totals of the last line are the rows' amounts: A once in G, A once, B and TALLY once in F, A twice, B and TALLY once in H.
@@ -255,8 +256,11 @@ fn the_czech_example_is_told_to_be_outside_and_without_its_reset_explained() {
     let run = |reset: &str| {
         let built = second::source::build(&CZECH.replace("{reset}", reset)).expect("a description");
         let desc = folder.file("desc", &built.bytes());
+        // FINAL's line is the last of the sheet
+        let text = String::from_utf8(sheet(&[&desc, &rows]).sheet).expect("a sheet");
+        let last = text.lines().last().expect("a line");
         let mut command = Command::new(Path::new(env!("CARGO_MANIFEST_DIR")).join("../target/bin/explain"));
-        command.args([&desc, &rows]).args(["1", LAST]);
+        command.args([&desc, &rows]).args([&last[..6], &last[6..9]]);
         finished(command)
     };
     let outside = run(" reset prvni");
