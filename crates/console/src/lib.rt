@@ -7,6 +7,13 @@ use libc::STDIN_FILENO;
 use libc::STDOUT_FILENO;
 use words::Program;
 
+// A description that keeps D1 has at most 12,928 bytes, so a longer file breaks it whatever the rest.
+pub const DESCRIPTION_ROOM: usize = 16_384;
+
+// Groups have at most 16 lines (D6), and all of them 128. One call prints those at most once and, for each of 17 body groups,
+// a page footing and a page heading twice: 128 + 17 * 2 * 32 lines of 142 bytes are 172,672 bytes.
+pub const CALL_ROOM: usize = 262_144;
+
 fn usage(p: Program, fd: i32) {
     match p {
         Program::Sheet => {

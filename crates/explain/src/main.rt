@@ -15,11 +15,6 @@ use unpacked::Opened;
 use verdict::Verdict;
 use words::Program;
 
-// As in `sheet`: the longest description, and the lines of any one call.
-const DESCRIPTION_ROOM: usize = 16_384;
-
-const CALL_ROOM: usize = 262_144;
-
 // ---- the search
 // TERMINATE, where no record stopped the search; a file that cannot be read is told.
 fn search_end(
@@ -119,7 +114,7 @@ fn explain_on(t: &[u16], h: Head, chars: &[u8], d: &[u8], path: &[u8], o: Option
         return;
     }
     let mut buffer = io::large_buffer();
-    let mut out = [0u8; CALL_ROOM];
+    let mut out = [0u8; console::CALL_ROOM];
     explain_with(t, h, chars, d, path, o, x, &mut buffer, &mut out);
 }
 
@@ -152,7 +147,7 @@ fn explain_files(description: &[u8], records: &[u8], o: Options, x: Sought) {
     if fd < 0 {
         return;
     }
-    let mut d = [0u8; DESCRIPTION_ROOM];
+    let mut d = [0u8; console::DESCRIPTION_ROOM];
     let n = io::read_full(fd, &mut d);
     if console::is_unreadable(Program::Explain, 0, fd, description) {
         return;

@@ -85,7 +85,7 @@ fn with_fields(l: Listing, t: &[u16], rec: &[u8], times: &[u64]) -> Listing {
     let mut all = l;
     let mut f = 0;
     while f < file::FIELDS_MAX {
-        all = with_field(all, t, rec, f, ways::value_at(times, f));
+        all = with_field(all, t, rec, f, routes::value_in(times, f));
         f += 1;
     }
     all

@@ -10,7 +10,7 @@ ghost use Rattle.routes.specs.Reached.{FoundFrom, FoundTo};
 use tables::Head;
 
 // A value by its number, or 0 past the end.
-fn value_in(values: &[u64], i: usize) -> u64
+pub fn value_in(values: &[u64], i: usize) -> u64
     ensures { λ r. ⌜ r ≡ valueIn (now (values .entry)) i ⌝ }
 {
     if i < values.len() { values[i] } else { 0 }

@@ -1,16 +1,9 @@
 // The thin program: INITIATE, GENERATE every record of a file or a pipe as detail 0, TERMINATE; the sheet goes to standard output.
 use words::Program;
 
-// A description that keeps D1 has at most 12,928 bytes, so a longer file breaks it whatever the rest.
-const DESCRIPTION_ROOM: usize = 16_384;
-
-// Groups have at most 16 lines (D6), and all of them 128. One call prints those at most once and, for each of 17 body groups,
-// a page footing and a page heading twice: 128 + 17 * 2 * 32 lines of 142 bytes are 172,672 bytes.
-const SHEET_ROOM: usize = 262_144;
-
 // The sheet of a description and its records: those of standard input, which `-` stands for, or of a file.
 fn print_records(d: &[u8], path: &[u8], progress: bool) {
-    let mut out = [0u8; SHEET_ROOM];
+    let mut out = [0u8; console::CALL_ROOM];
     if console::is_same(path, b"-") {
         pipe::print_input(d, progress, &mut out);
     } else {
@@ -24,7 +17,7 @@ fn print_files(description: &[u8], records: &[u8], progress: bool) {
     if fd < 0 {
         return;
     }
-    let mut d = [0u8; DESCRIPTION_ROOM];
+    let mut d = [0u8; console::DESCRIPTION_ROOM];
     let n = io::read_full(fd, &mut d);
     if console::is_unreadable(Program::Sheet, 0, fd, description) {
         return;

@@ -165,7 +165,7 @@ pub fn put_routes(o: Output, t: &[u16], h: Head, k: usize, times: &[u64]) -> Out
     };
     let mut f = 0;
     while f < file::FIELDS_MAX {
-        all = put_field(all, t, h, f, k, ways::value_at(times, f));
+        all = put_field(all, t, h, f, k, routes::value_in(times, f));
         f += 1;
     }
     all.output

@@ -9,11 +9,6 @@ pub struct Way {
     pub count: usize,
 }
 
-// A value by its number, or 0 past the end.
-pub fn value_at(values: &[u64], i: usize) -> u64 {
-    if i < values.len() { values[i] } else { 0 }
-}
-
 // ---- how many
 // 1 where addend `a` is the field, selected for detail 0; else 0.
 fn begins(t: &[u16], h: Head, field: usize, a: usize) -> u64
@@ -79,7 +74,7 @@ fn through(t: &[u16], h: Head, field: usize, times: &[u64], a: usize) -> u64
     if kind == tables::ADDEND_FIELD {
         return begins(t, h, field, a);
     }
-    value_at(times, tables::addend_num(t, h, a, 1))
+    routes::value_in(times, tables::addend_num(t, h, a, 1))
 }
 
 // The addend through which route `n` to a counter goes, and its number among those that go through it; no addend where there
