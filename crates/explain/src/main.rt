@@ -4,6 +4,9 @@ ghost use lib.ListN.{length};
 ghost use Rattle.description.specs.Facts.{TableRoom};
 ghost use Rattle.accepted.specs.Accepted.{Accepted};
 ghost use Rattle.explained.specs.Facts.{Explains};
+
+mod explaining;
+
 use description::Checked;
 use explaining::Options;
 use number::signed;

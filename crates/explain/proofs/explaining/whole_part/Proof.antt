@@ -1,10 +1,10 @@
--- `explaining::whole_part` meets its contract: a remainder is not above what it is taken of.
+-- `explain::explaining::whole_part` meets its contract: a remainder is not above what it is taken of.
 -- Assumes nothing.
 use native.Mathlib.Nat.{mod-le}
 use native.Mathlib.Omega.{arith}
 use borrow.Author.Needs.{needs}
-use Rattle.explaining.proofs.whole_part.Statement.{statement}
-use Rattle.explaining.proofs.whole_part.Tie as tie
+use Rattle.explain.proofs.explaining.whole_part.Statement.{statement}
+use Rattle.explain.proofs.explaining.whole_part.Tie as tie
 
 pub whole-part-spec : {M : Type 1} → statement M
 whole-part-spec =

@@ -1,10 +1,10 @@
--- `explaining::has_sum` meets its contract. The measure is the items left.
+-- `explain::explaining::has_sum` meets its contract. The measure is the items left.
 -- Assumes nothing.
 use Prim.Native.Nat.{_-_, _≤_}
 use native.Mathlib.Omega.{arith}
 use borrow.Author.Needs.{needs}
-use Rattle.explaining.proofs.has_sum.Statement.{statement}
-use Rattle.explaining.proofs.has_sum.Tie as tie
+use Rattle.explain.proofs.explaining.has_sum.Statement.{statement}
+use Rattle.explain.proofs.explaining.has_sum.Tie as tie
 
 abbrev Inv-loop : tie.InvT-loop
 Inv-loop t h l first n m₀ m = m ≤ n

@@ -1,12 +1,12 @@
--- `explaining::explain_items` meets its contract. The measure is the items left.
+-- `explain::explaining::explain_items` meets its contract. The measure is the items left.
 -- Assumes nothing.
 use Prim.Native.Nat.{_-_, _≤_}
 use mathlib.Core.Path.{_≡_}
 use lib.ListN.{length}
 use native.Mathlib.Omega.{arith}
 use borrow.Author.Needs.{needs}
-use Rattle.explaining.proofs.explain_items.Statement.{statement}
-use Rattle.explaining.proofs.explain_items.Tie as tie
+use Rattle.explain.proofs.explaining.explain_items.Statement.{statement}
+use Rattle.explain.proofs.explaining.explain_items.Tie as tie
 
 abbrev Inv-loop : tie.InvT-loop
 Inv-loop t h path x l s text buffer₀ first n all₀ m₀ buffer all m = (m ≤ n) × (length buffer ≡ length buffer₀)
