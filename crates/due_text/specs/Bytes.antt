@@ -24,6 +24,10 @@ pub record Reading : Type 0 where
 abbrev pub reading : List ℕ → List ℕ → List ℕ → List ℤ → Bool → Prefix → Reading
 reading chars kept row sums flag prefix = record { chars = chars; kept = kept; row = row; sums = sums; flag = flag; prefix = prefix }
 
+-- the same lines, with something else in front of each record
+abbrev pub withPrefix : Prefix → Reading → Reading
+withPrefix prefix r = reading (r .chars) (r .kept) (r .row) (r .sums) (r .flag) prefix
+
 abbrev pub inputsOf : Reading → Inputs
 inputsOf r = inputs (r .chars) (r .kept) (r .row) (r .sums)
 

@@ -19,8 +19,8 @@ use Rattle.sums.specs.declared.Totals.{Totals}
 use Rattle.amounts.specs.Totals.{fresh, totalsFirst, totalsLater, totalsLast}
 use Rattle.amounts.proofs.Good.{GoodSums, zeros-good, first-good, later-good, last-good}
 use Rattle.place.specs.Place.{lastPage}
-use Rattle.printed.specs.Printed.{noPrefix}
-use Rattle.printed.proofs.Laws.{no-prefix-short}
+use Rattle.printed.specs.declared.Prefix.{Prefix}
+use Rattle.printed.specs.Printed.{Short}
 use Rattle.due_text.specs.Bytes.{reading}
 use Rattle.plan.specs.declared.Plan.{Plan}
 use Rattle.plan.specs.Plan.{firstPlan, laterPlan, lastPlan}
@@ -44,11 +44,11 @@ module _ {h : Head} {t chars : List ℕ} (A : Accepted h t chars) where
   called : {p : Plan} {s : Pos} → Planned h p → s .page ≤ lastPage → Called h t p s
   called q l = record { small = A .small; planned = q; page = l }
 
-  printable : (kept row : List ℕ) (sums : List ℤ) (flag : Bool) → Formed h t kept → Formed h t row → length sums ≡ sumCount → Printable h t (reading chars kept row sums flag noPrefix)
-  printable kept row sums flag k r n = record {
+  printable : {prefix : Prefix} → Short prefix → (kept row : List ℕ) (sums : List ℤ) (flag : Bool) → Formed h t kept → Formed h t row → length sums ≡ sumCount → Printable h t (reading chars kept row sums flag prefix)
+  printable short kept row sums flag k r n = record {
     items = A .itemsIn;
     readable = record { kept = k; row = r; sums = omega (arith, A .countersIn .few) };
-    prefix = no-prefix-short;
+    prefix = short;
   }
 
 -- ---- a row that passed its tests
@@ -86,11 +86,11 @@ module _ {h : Head} {t chars : List ℕ} {s : State} {detail : ℕ} {row : List 
   pub first-called : {g : ℕ} {q : Plan} {at : Pos} → q ≡ firstPlan h g → at ≡ placeOf s → g ≤ h .groups → Called h t q at
   first-called e f l = rw (e, f) (called (p .0 .accepted) (record { level = omega arith; feet = omega arith; heads = p .0 .accepted .controls8; detail = l }) (omega (arith, ap (λ (x : State). x .page) fresh-one)))
 
-  pub first-printable : {totals : Totals} {kept : List ℕ} → totals ≡ totalsFirst h t row detail (s .sums) → kept ≡ paddedRow row → Printable h t (reading chars kept row (totals .shown) true noPrefix) × (length (totals .shown) ≡ sumCount)
-  first-printable e k =
+  pub first-printable : {prefix : Prefix} → Short prefix → {totals : Totals} {kept : List ℕ} → totals ≡ totalsFirst h t row detail (s .sums) → kept ≡ paddedRow row → Printable h t (reading chars kept row (totals .shown) true prefix) × (length (totals .shown) ≡ sumCount)
+  first-printable short e k =
       let A = p .0 .accepted in
       let n = first-good h t (A .countersIn .few) (s .sums) zero-sums row detail .long in
-      rw (e, k) (printable A (paddedRow row) row _ true (padded-whole row (A .fieldsIn) (omega (arith, p .1 .0 .long)) (row-short p) (p .1 .0 .good)) (row-formed p) n, n)
+      rw (e, k) (printable A short (paddedRow row) row _ true (padded-whole row (A .fieldsIn) (omega (arith, p .1 .0 .long)) (row-short p) (p .1 .0 .good)) (row-formed p) n, n)
 
 -- ---- a running state
 pub good-sums : {h : Head} {t : List ℕ} {s : State} → RunningState h t s → length (s .sums) ≡ sumCount → GoodSums (h .counters) (s .sums)
@@ -113,10 +113,10 @@ module _ {h : Head} {t chars : List ℕ} {s : State} (S : Stands h t chars s) (e
   pub last-called : {q : Plan} {at : Pos} → q ≡ lastPlan h → at ≡ placeOf s → Called h t q at
   last-called d f = rw (d, f) (called (S .accepted) (record { level = omega arith; feet = S .accepted .controls8; heads = omega arith; detail = omega arith }) (facts .last))
 
-  pub last-printable : {totals : Totals} → totals ≡ totalsLast h t (s .sums) → Printable h t (reading chars (s .kept) (s .kept) (totals .shown) false noPrefix) × (length (totals .shown) ≡ sumCount)
-  last-printable d =
+  pub last-printable : {prefix : Prefix} → Short prefix → {totals : Totals} → totals ≡ totalsLast h t (s .sums) → Printable h t (reading chars (s .kept) (s .kept) (totals .shown) false prefix) × (length (totals .shown) ≡ sumCount)
+  last-printable short d =
       let n = last-good h t (S .accepted .countersIn .few) (s .sums) (good-sums facts (S .sized .sumsLong)) .long in
-      rw d (printable (S .accepted) (s .kept) (s .kept) _ false kept-in kept-in n, n)
+      rw d (printable (S .accepted) short (s .kept) (s .kept) _ false kept-in kept-in n, n)
 
 -- and its row
 module _ {h : Head} {t chars : List ℕ} {s : State} {detail : ℕ} {row : List ℕ} (p : RowAt running h t chars s detail row) where
@@ -131,7 +131,7 @@ module _ {h : Head} {t chars : List ℕ} {s : State} {detail : ℕ} {row : List 
       let A = p .0 .accepted in
       rw (e, f) (called A (record { level = omega (arith, A .controls8); feet = omega (arith, A .controls8); heads = omega (arith, A .controls8); detail = l }) (facts (p .0) (p .1 .1) .last))
 
-  pub later-printable : {totals : Totals} (b : ℕ) (flag : Bool) → totals ≡ totalsLater h t row detail b (s .sums) → Printable h t (reading chars (s .kept) row (totals .shown) flag noPrefix)
-  later-printable b flag e =
+  pub later-printable : {prefix : Prefix} → Short prefix → {totals : Totals} (b : ℕ) (flag : Bool) → totals ≡ totalsLater h t row detail b (s .sums) → Printable h t (reading chars (s .kept) row (totals .shown) flag prefix)
+  later-printable short b flag e =
       let A = p .0 .accepted in
-      rw e (printable A (s .kept) row _ flag (kept-in (p .0) (p .1 .1)) (row-formed p) (later-good h t (A .countersIn .few) (s .sums) (good-sums (facts (p .0) (p .1 .1)) (p .0 .sized .sumsLong)) row detail b .long))
+      rw e (printable A short (s .kept) row _ flag (kept-in (p .0) (p .1 .1)) (row-formed p) (later-good h t (A .countersIn .few) (s .sums) (good-sums (facts (p .0) (p .1 .1)) (p .0 .sized .sumsLong)) row detail b .long))

@@ -8,7 +8,7 @@ use Rattle.accepted.specs.Accepted.{Accepted}
 use Rattle.state.specs.declared.State.{State}
 use Rattle.state_rules.specs.Rules.{stateOk}
 use Rattle.state.specs.State.{Sized}
-use Rattle.printed.specs.Printed.{noPrefix}
+use Rattle.printed.specs.declared.Prefix.{Prefix}
 use Rattle.plan.specs.declared.Plan.{Plan}
 use Rattle.layout.specs.declared.Pos.{Pos}
 use Rattle.layout.specs.Layout.{layout}
@@ -23,9 +23,9 @@ pub record Stands (h : Head) (t chars : List ℕ) (s : State) : Type 0 where
   pub rules : stateOk h t s ≡ true
   pub sized : Sized s
 
--- what is printed of a plan, from a place on and measured: nothing stands in front of the records
-abbrev pub jobOf : Plan → Pos → Measured → Bool → Job
-jobOf p pos m flag = record { plan = p; pos = pos; measured = m; flag = flag; prefix = noPrefix }
+-- what is printed of a plan, from a place on and measured
+abbrev pub jobOf : Plan → Pos → Measured → Bool → Prefix → Job
+jobOf p pos m flag prefix = record { plan = p; pos = pos; measured = m; flag = flag; prefix = prefix }
 
 -- the work from the parts that the code holds
 abbrev pub prepared : Head → List ℕ → List ℕ → List ℕ → List ℕ → Prepared → Work

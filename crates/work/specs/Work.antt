@@ -8,7 +8,8 @@ use Rattle.tables.specs.declared.Head.{Head}
 use Rattle.plan.specs.declared.Plan.{Plan}
 use Rattle.layout.specs.declared.Pos.{Pos}
 use Rattle.layout.specs.Layout.{Laid, layout}
-use Rattle.due_text.specs.Bytes.{Reading}
+use Rattle.printed.specs.declared.Prefix.{Prefix}
+use Rattle.due_text.specs.Bytes.{Reading, withPrefix}
 use Rattle.pages.specs.Outcome.{outcome, written}
 use Rattle.verdict.specs.declared.Verdict.the-variants as verdict
 use Rattle.state.specs.declared.State.{State}
@@ -28,6 +29,10 @@ pub record Work : Type 0 where
   pub sums : List ℤ
   pub flags : List Bool
   pub kept : List ℕ
+
+-- the same work, with something in front of each record (document 02, R-7: a code)
+abbrev pub prefixed : Prefix → Work → Work
+prefixed prefix w = record { ok = w .ok; laid = w .laid; inputs = withPrefix prefix (w .inputs); phase = w .phase; sums = w .sums; flags = w .flags; kept = w .kept }
 
 -- the next state, at a place
 abbrev pub moved : Work → Pos → State

@@ -3,12 +3,13 @@ ghost use mathlib.Core.Path.{_≡_};
 ghost use lib.ListN.{length};
 ghost use Rattle.layout.specs.Facts.{Called};
 ghost use Rattle.measure.specs.Measure.{Measures};
+ghost use Rattle.printed.specs.Printed.{Short};
 ghost use Rattle.due_text.specs.Bytes.{reading};
 ghost use Rattle.due_text.specs.Facts.{Printable};
 ghost use Rattle.state.specs.State.{started, running, sumCount};
 ghost use Rattle.refusals.specs.Facts.{RowIn};
 ghost use Rattle.answer.specs.Result.{Returns};
-ghost use Rattle.work.specs.Work.{settled};
+ghost use Rattle.work.specs.Work.{prefixed, settled};
 ghost use Rattle.work.specs.Rows.{firstWork, laterWork, lastWork};
 ghost use Rattle.work.specs.Facts.{Stands, jobOf, prepared};
 use answer::Answer;
@@ -16,6 +17,7 @@ use layout::Pos;
 use measure::Measured;
 use pages::Job;
 use plan::Plan;
+use printed::Prefix;
 use state::State;
 use sums::Totals;
 use tables::Head;
@@ -61,10 +63,9 @@ fn run<'a>(
 }
 
 // What is printed of a plan, from a place on and measured.
-fn job_of(plan: Plan, pos: Pos, measured: Measured, flag: bool) -> Job
-    ensures { λ r. ⌜ r ≡ jobOf plan pos measured flag ⌝ }
+fn job_of(plan: Plan, pos: Pos, measured: Measured, flag: bool, prefix: Prefix) -> Job
+    ensures { λ r. ⌜ r ≡ jobOf plan pos measured flag prefix ⌝ }
 {
-    let prefix = printed::no_prefix();
     Job {
         plan,
         pos,
@@ -82,10 +83,11 @@ pub fn first_row(
     s: State,
     detail: usize,
     rec: &[u8],
+    prefix: Prefix,
     out: &mut [u8],
 ) -> Answer
-    requires { ⌜ Stands h (now t) (now chars) s × (RowIn h (now t) detail (now rec) × (s .phase ≡ started)) ⌝ }
-    ensures { λ r. ⌜ Returns (settled h (now (t .entry)) s (firstWork h (now (t .entry)) (now (chars .entry)) s detail (now (rec .entry))) (now (out .entry))) r (now (out .exit)) ⌝ }
+    requires { ⌜ (Stands h (now t) (now chars) s × (RowIn h (now t) detail (now rec) × (s .phase ≡ started))) × Short prefix ⌝ }
+    ensures { λ r. ⌜ Returns (settled h (now (t .entry)) s (prefixed prefix (firstWork h (now (t .entry)) (now (chars .entry)) s detail (now (rec .entry)))) (now (out .entry))) r (now (out .exit)) ⌝ }
 {
     let group = lookup::find_detail(t, h, detail);
     let old = s.sums;
@@ -102,7 +104,7 @@ pub fn first_row(
     let plan = plan::first_plan(h, group);
     let pos = answer::place_of(s);
     let measured = measure::measure(t, h, plan, pos);
-    let job = job_of(plan, pos, measured, true);
+    let job = job_of(plan, pos, measured, true, prefix);
     let w = Prepared {
         state: s,
         totals,
@@ -122,10 +124,11 @@ pub fn later_row(
     s: State,
     detail: usize,
     rec: &[u8],
+    prefix: Prefix,
     out: &mut [u8],
 ) -> Answer
-    requires { ⌜ Stands h (now t) (now chars) s × (RowIn h (now t) detail (now rec) × (s .phase ≡ running)) ⌝ }
-    ensures { λ r. ⌜ Returns (settled h (now (t .entry)) s (laterWork h (now (t .entry)) (now (chars .entry)) s detail (now (rec .entry))) (now (out .entry))) r (now (out .exit)) ⌝ }
+    requires { ⌜ (Stands h (now t) (now chars) s × (RowIn h (now t) detail (now rec) × (s .phase ≡ running))) × Short prefix ⌝ }
+    ensures { λ r. ⌜ Returns (settled h (now (t .entry)) s (prefixed prefix (laterWork h (now (t .entry)) (now (chars .entry)) s detail (now (rec .entry)))) (now (out .entry))) r (now (out .exit)) ⌝ }
 {
     let group = lookup::find_detail(t, h, detail);
     let b = rows::break_level(t, h, &s.kept, rec);
@@ -143,7 +146,7 @@ pub fn later_row(
     let broken = state::flags_at(t, h, b, before);
     let turned = state::flags_turned(t, h, pos.page, to.page, broken);
     let flag = turned[detail];
-    let job = job_of(plan, pos, measured, flag);
+    let job = job_of(plan, pos, measured, flag, prefix);
     let outcome = pages::call(t, h, chars, &s.kept, rec, &totals.shown, job, out);
     let sums = totals.sums;
     let kept = s.kept;
@@ -153,9 +156,16 @@ pub fn later_row(
 }
 
 // The last footings of a report.
-pub fn last_groups(t: &[u16], h: Head, chars: &[u8], s: State, out: &mut [u8]) -> Answer
-    requires { ⌜ Stands h (now t) (now chars) s × (s .phase ≡ running) ⌝ }
-    ensures { λ r. ⌜ Returns (settled h (now (t .entry)) s (lastWork h (now (t .entry)) (now (chars .entry)) s) (now (out .entry))) r (now (out .exit)) ⌝ }
+pub fn last_groups(
+    t: &[u16],
+    h: Head,
+    chars: &[u8],
+    s: State,
+    prefix: Prefix,
+    out: &mut [u8],
+) -> Answer
+    requires { ⌜ (Stands h (now t) (now chars) s × (s .phase ≡ running)) × Short prefix ⌝ }
+    ensures { λ r. ⌜ Returns (settled h (now (t .entry)) s (prefixed prefix (lastWork h (now (t .entry)) (now (chars .entry)) s)) (now (out .entry))) r (now (out .exit)) ⌝ }
 {
     let old = s.sums;
     let kept = s.kept;
@@ -167,7 +177,7 @@ pub fn last_groups(t: &[u16], h: Head, chars: &[u8], s: State, out: &mut [u8]) -
     let measured = measure::measure(t, h, plan, pos);
     let to = measured.to;
     let flags = state::flags_turned(t, h, pos.page, to.page, before);
-    let job = job_of(plan, pos, measured, false);
+    let job = job_of(plan, pos, measured, false, prefix);
     let w = Prepared {
         state: s,
         totals,
