@@ -3,6 +3,7 @@ ghost use mathlib.Core.Path.{_≡_};
 ghost use Prim.Native.Nat.{_+_, _≤_};
 ghost use lib.ListN.{length, drop};
 ghost use Rattle.splice.specs.Splice.{Wrote};
+ghost use Rattle.printed.specs.Printed.{Short};
 ghost use Rattle.coded.specs.Coded.{codePrefix, carries as carriesSpec, codesOk, takenApart};
 use printed::Prefix;
 
@@ -11,7 +12,7 @@ pub const CODE_SIZE: usize = 2;
 
 // A code as what stands in front of each record.
 pub fn code_prefix(code: [u8; CODE_SIZE]) -> Prefix
-    ensures { λ r. ⌜ r ≡ codePrefix code ⌝ }
+    ensures { λ r. ⌜ (r ≡ codePrefix code) × Short r ⌝ }
 {
     Prefix {
         bytes: code,
