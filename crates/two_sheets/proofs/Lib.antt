@@ -1,0 +1,2 @@
+-- The proof of R-7.
+pub mod Lines
