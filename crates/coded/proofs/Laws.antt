@@ -2,21 +2,26 @@
 --     code-short                          a code is a prefix that the printer can hold
 --     carries-take, plain-take            what a record says is said by the file from its offset on
 --     length-plain                        what is taken of a record is no longer than the record
+--     plain-front, carries-own            of a record printed with a code in front, all behind the code is taken, or nothing
+--     codes-apart                         of two codes that tell records apart, neither carries the other
 --     apart-nil, apart-one, apart-append  taken apart: nothing, one record, whole records and what stands behind them
 --     Apart                               whole records, with what is taken of them; apart-[], apart-record, apart-++
 -- Assumes nothing.
 use Prim.Native.Nat.{ℕ, zero, suc, _+_, _*_, _/_, _-_, _≤_, _<_}
 use mathlib.Core.Path.{_≡_, refl, sym, ap, _∙_}
-use mathlib.Core.Bool.{cond}
+use mathlib.Core.Bool.{true, false, cond, _&&_, not, false≢true}
 use mathlib.Core.List.{List, [], _∷_, _++_, append-assoc, append-nil}
 use native.Mathlib.Nat.{zero-add, add-zero, suc-add, add-suc, add-mul, zero-mul, mul-le-mul-right, mul-add-div-right, mul-div-cancel, div-self, zero-div}
 use native.Mathlib.Omega.{arith}
-use lib.ListN.{length, take, drop, length-append, length-drop}
+use lib.ListN.{length, getD, take, drop, length-append, length-drop}
 use lib.Seq.{getD-take, take-nil, take-all, take-append-le, drop-append-le, drop-append-add}
+use lib.Dec.{eqb}
+use borrow.Author.Tests.{eqb-true, not-true, eq-eqb}
 use Rattle.counts.specs.Below.{joinBelow}
-use Rattle.counts.proofs.Laws.{by-cond, join-same}
-use Rattle.printed.specs.Printed.{Short}
-use Rattle.coded.specs.Coded.{codeSize, codePrefix, carries, recordAt, plainIf, takenApart}
+use Rattle.counts.proofs.Laws.{by-test, by-cond, and-l, and-r, join-same}
+use Rattle.ascii.specs.Printable.{allPrintable}
+use Rattle.printed.specs.Printed.{inFront, Short}
+use Rattle.coded.specs.Coded.{codeSize, codePrefix, carries, codesOk, recordAt, plainIf, takenApart}
 
 pub code-short : {code : List ℕ} → length code ≡ 2 → Short (codePrefix code)
 code-short e = record { size = e; few = omega arith }
@@ -44,6 +49,25 @@ module _ (code : List ℕ) (size : ℕ) (bytes : List ℕ) (h : 2 ≤ size) wher
 pub length-plain : (code bytes : List ℕ) → length (plainIf code bytes) ≤ length bytes
 length-plain code bytes =
     by-cond (λ (l : List ℕ). length l ≤ length bytes) (carries code bytes) (λ _. simp length-drop (omega arith)) (λ _. omega arith)
+
+pub plain-front : (asked code rest : List ℕ) → length code ≡ 2 → plainIf asked (inFront (codePrefix code) ++ rest) ≡ cond (carries asked code) rest []
+plain-front asked [] rest e = absurd (omega arith)
+plain-front asked (x ∷ []) rest e = absurd (omega arith)
+plain-front asked (x ∷ y ∷ code) rest e = refl
+
+pub carries-own : (code : List ℕ) → carries code code ≡ true
+carries-own code = rw (eq-eqb (getD code 0 0) (getD code 0 0) refl, eq-eqb (getD code 1 0) (getD code 1 0) refl) refl
+
+carries-turned : (one two : List ℕ) → carries one two ≡ true → carries two one ≡ true
+carries-turned one two e =
+    let a = eqb-true (getD one 0 0) (getD two 0 0) (and-l _ (eqb (getD one 1 0) (getD two 1 0)) e) in
+    let b = eqb-true (getD one 1 0) (getD two 1 0) (and-r (eqb (getD one 0 0) (getD two 0 0)) _ e) in
+    rw (eq-eqb (getD two 0 0) (getD one 0 0) (sym a), eq-eqb (getD two 1 0) (getD one 1 0) (sym b)) refl
+
+pub codes-apart : (one two : List ℕ) → codesOk one two ≡ true → (carries one two ≡ false) × (carries two one ≡ false)
+codes-apart one two e =
+    let a : carries one two ≡ false = not-true (carries one two) (and-r (allPrintable codeSize one && allPrintable codeSize two) (not (carries one two)) e) in
+    (a, by-test (carries two one) (λ q. absurd (false≢true (sym a ∙ carries-turned two one q))) (λ q. q))
 
 -- ---- whole records
 

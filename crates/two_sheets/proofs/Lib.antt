@@ -2,3 +2,4 @@
 pub mod Lines
 pub mod Own
 pub mod Step
+pub mod Lists

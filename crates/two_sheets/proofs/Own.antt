@@ -32,9 +32,10 @@ use Rattle.calls.specs.Calls.{tried}
 use Rattle.every_call.proofs.Shows.{Shows, last-shows}
 use Rattle.room.specs.Row.{Row, noRow, workRow, unlessRow, silent, doneRow, callOf}
 use Rattle.room.proofs.Rows.{row-shows}
-use Rattle.two_sheets.proofs.Lines.{apart-nil, own-lines, other-lines, whole-lines}
+use Rattle.coded.proofs.Laws.{apart-nil}
+use Rattle.two_sheets.proofs.Lines.{own-lines, other-lines, whole-lines}
 
-module _ (h : Head) (t chars : List ℕ) (A : Accepted h t chars) (code other : List ℕ) (two : length code ≡ codeSize) (two' : length other ≡ codeSize) (differ : carries other code ≡ false) where
+module _ (h : Head) (t chars : List ℕ) (A : Accepted h t chars) (code other : List ℕ) (two : length code ≡ codeSize) (differ : carries other code ≡ false) where
   abbrev size : ℕ
   size = recordSize (codePrefix code) (h .width)
 
@@ -47,7 +48,7 @@ module _ (h : Head) (t chars : List ℕ) (A : Accepted h t chars) (code other : 
     pub plain : length b ≡ rows * recordSize noPrefix (h .width)
 
   pub coded-none : Coded [] []
-  coded-none = record { own = apart-nil code size; none = apart-nil other size; rows = 0; long = omega arith; plain = omega arith }
+  coded-none = record { own = apart-nil code (omega arith); none = apart-nil other (omega arith); rows = 0; long = omega arith; plain = omega arith }
 
   pub record Twin (x y : Row) : Type 0 where
     pub verdict : x .verdict ≡ y .verdict
@@ -71,10 +72,10 @@ module _ (h : Head) (t chars : List ℕ) (A : Accepted h t chars) (code other : 
         verdict = refl;
         state = refl;
         lines = record {
-          own = own-lines h t (w .inputs) (x .items) code two (x .groups) ∙ ap (λ (r : Reading). dueBytes h t r (w .laid .dues)) plain;
-          none = other-lines h t (w .inputs) (x .items) code two other two' differ (x .groups);
+          own = own-lines h t (w .inputs) (x .items) (x .groups) code two ∙ ap (λ (r : Reading). dueBytes h t r (w .laid .dues)) plain;
+          none = other-lines h t (w .inputs) (x .items) (x .groups) code two other differ;
           rows = lineTotal h t (w .laid .dues);
-          long = whole-lines h t (w .inputs) (x .items) code two (x .groups);
+          long = whole-lines h t (w .inputs) (x .items) (x .groups) code two;
           plain = length-dueBytes h t (w .inputs) (x .items) (rw (x .plain) no-prefix-short) (x .groups) ∙ ap (λ (p : Prefix). lineTotal h t (w .laid .dues) * recordSize p (h .width)) (x .plain);
         };
       })))
