@@ -18,12 +18,13 @@ use Rattle.little_endian.specs.Numbers.{bytes}
 use Rattle.little_endian.proofs.Laws.{length-bytes}
 use Rattle.state_bytes.specs.Bytes as state
 use Rattle.state_bytes.proofs.Laws.{splice-three, length-bytesOf}
+use Rattle.report_file.specs.declared.Agent.{Agent}
 use Rattle.report_file.specs.declared.Codes.{Codes}
 use Rattle.report_file.specs.declared.ReportFile.{ReportFile}
 use Rattle.report_file.specs.declared.Filed.{Filed}
 use Rattle.report_file.specs.Verdict.{number, extra}
 use Rattle.report_file.specs.File.{FiledResult, Files}
-use Rattle.report_file_c.specs.Bytes.{secondAt, codesAt, codesSize, placeAt, fileSize, codeBytes, bytesOf, codeFrom}
+use Rattle.report_file_c.specs.Bytes.{secondAt, codesAt, codesSize, placeAt, fileSize, codeBytes, bytesOf, storedIn, codeFrom}
 use Rattle.report_file_c.specs.Leaves.{stored, numbers, Leaves, Tells}
 use Rattle.report_file_c.specs.Facts.{CodesLong, FileSized}
 
@@ -36,13 +37,13 @@ three (a ∷ b ∷ c ∷ []) x y z l = refl
 three (a ∷ b ∷ c ∷ d ∷ r) x y z l = absurd (omega arith)
 
 -- the answer's numbers, told, and the report file stored where the first is 0
-pub tells : (a : Filed) (l : List ℕ) {old file : List ℕ} {n x : ℕ} → length l ≡ 3 → n ≡ number (a .verdict) → x ≡ extra (a .verdict)
-    → file ≡ cond (eqb n 0) (bytesOf (a .file)) old → Tells a old file (set (set (set l 0 n) 1 x) 2 (a .count))
-tells a l {n = n} {x = x} long e f g = record { fileIs = rw (← e) g; answerIs = three l n x (a .count) long ∙ rw (e, f) refl }
+pub tells : (a : Filed) (agent : Agent) (l : List ℕ) {old file : List ℕ} {n x : ℕ} → length l ≡ 3 → n ≡ number (a .verdict) → x ≡ extra (a .verdict)
+    → file ≡ cond (eqb n 0) (storedIn old agent (a .file)) old → Tells a agent old file (set (set (set l 0 n) 1 x) 2 (a .count))
+tells a agent l {n = n} {x = x} long e f g = record { fileIs = rw (← e) g; answerIs = three l n x (a .count) long ∙ rw (e, f) refl }
 
 -- a call's result, told
-pub leaves : {x : FiledResult} {a : Filed} {old file out answer : List ℕ} → Files x a out → Tells a old file answer → Leaves x old file out answer
-leaves {old = old} r t = record { fileIs = t .fileIs ∙ ap (stored old) (r .filedIs); outIs = r .outIs; answerIs = t .answerIs ∙ ap numbers (r .filedIs) }
+pub leaves : {x : FiledResult} {a : Filed} {agent : Agent} {old file out answer : List ℕ} → Files x a out → Tells a agent old file answer → Leaves x agent old file out answer
+leaves {agent = agent} {old = old} r t = record { fileIs = t .fileIs ∙ ap (stored old agent) (r .filedIs); outIs = r .outIs; answerIs = t .answerIs ∙ ap numbers (r .filedIs) }
 
 -- ---- written
 -- a state, by way of an array of its own

@@ -4,11 +4,12 @@ ghost use mathlib.Core.List.{[]};
 ghost use Prim.Native.Nat.{_+_, _≤_};
 ghost use lib.ListN.{length};
 ghost use Rattle.splice.specs.Splice.{splice};
+ghost use Rattle.little_endian.specs.Numbers.{bytes};
 ghost use Rattle.coded.specs.Coded.{codeSize};
 ghost use Rattle.state_bytes.specs.Bytes as stateBytes;
-ghost use Rattle.report_file.specs.File.{freshFile};
+ghost use Rattle.report_file.specs.File.{freshFile, stateOf};
 ghost use Rattle.report_file.specs.Calls.{initiate as initiateSpec, generate as generateSpec, terminate as terminateSpec};
-ghost use Rattle.report_file_c.specs.Bytes.{codesAt, codesSize, fileSize, codeBytes, bytesOf, codeFrom, codesOf, stateFrom, fileOf, agentOf};
+ghost use Rattle.report_file_c.specs.Bytes.{codesAt, codesSize, placeAt, fileSize, stateAt, codeBytes, bytesOf, storedIn, codeFrom, codesOf, stateFrom, fileOf, agentOf};
 ghost use Rattle.report_file_c.specs.Leaves.{Leaves, Tells};
 use coded::CODE_SIZE;
 use little_endian::number8;
@@ -51,6 +52,13 @@ fn put_codes(c: Codes, out: &mut [u8])
     splice::copy(&second, CODE_SIZE, CODES_AT + CODE_SIZE, out);
 }
 
+fn put_place(place: usize, out: &mut [u8])
+    requires { ⌜ length (now out) ≡ fileSize ⌝ }
+    ensures { λ _. ⌜ now (out .exit) ≡ splice (now (out .entry)) placeAt (bytes 8 place) ⌝ }
+{
+    put8(place, PLACE_AT, out);
+}
+
 fn encode(f: ReportFile, out: &mut [u8])
     requires { ⌜ length (now out) ≡ fileSize ⌝ }
     ensures { λ _. ⌜ now (out .exit) ≡ bytesOf f ⌝ }
@@ -61,7 +69,33 @@ fn encode(f: ReportFile, out: &mut [u8])
     put_state(first, 0, out);
     put_state(second, SECOND_AT, out);
     put_codes(codes, out);
-    put8(f.place, PLACE_AT, out);
+    put_place(f.place, out);
+}
+
+// An agent's own state.
+fn put_own(f: ReportFile, agent: Agent, out: &mut [u8])
+    requires { ⌜ length (now out) ≡ fileSize ⌝ }
+    ensures { λ _. ⌜ now (out .exit) ≡ splice (now (out .entry)) (stateAt agent) (stateBytes.bytesOf (stateOf f agent)) ⌝ }
+{
+    match agent {
+        Agent::First => {
+            let s = f.first;
+            put_state(s, 0, out);
+        }
+        Agent::Second => {
+            let s = f.second;
+            put_state(s, SECOND_AT, out);
+        }
+    }
+}
+
+// The agent's state and the place; the other's state and the codes stay as they were.
+fn store(f: ReportFile, agent: Agent, out: &mut [u8])
+    requires { ⌜ length (now out) ≡ fileSize ⌝ }
+    ensures { λ _. ⌜ now (out .exit) ≡ storedIn (now (out .entry)) agent f ⌝ }
+{
+    put_own(f, agent, out);
+    put_place(f.place, out);
 }
 
 // ---- read
@@ -113,9 +147,9 @@ fn agent_of(n: u32) -> Agent
 
 // ---- the calls
 // Tells the answer, and stores the next report file where the call was accepted.
-fn tell(a: Filed, file: &mut [u8], answer: &mut [u64])
+fn tell(a: Filed, agent: Agent, file: &mut [u8], answer: &mut [u64])
     requires { ⌜ (length (now file) ≡ fileSize) × (length (now answer) ≡ 3) ⌝ }
-    ensures { λ _. ⌜ Tells a (now (file .entry)) (now (file .exit)) (now (answer .exit)) ⌝ }
+    ensures { λ _. ⌜ Tells a agent (now (file .entry)) (now (file .exit)) (now (answer .exit)) ⌝ }
 {
     let v = a.verdict;
     let n = v.number();
@@ -124,7 +158,7 @@ fn tell(a: Filed, file: &mut [u8], answer: &mut [u64])
     answer[2] = a.count as u64;
     if n == 0 {
         let f = a.file;
-        encode(f, file);
+        store(f, agent, file);
     }
 }
 
@@ -146,12 +180,12 @@ pub extern "C" fn bailcurlew_report_file_initiate(
     agent: u32,
     answer: &mut [u64; 3],
 )
-    ensures { λ _. ⌜ Tells (initiateSpec (now (d .entry)) (fileOf (now (file .entry))) (agentOf agent) [] .filed) (now (file .entry)) (now (file .exit)) (now (answer .exit)) ⌝ }
+    ensures { λ _. ⌜ Tells (initiateSpec (now (d .entry)) (fileOf (now (file .entry))) (agentOf agent) [] .filed) (agentOf agent) (now (file .entry)) (now (file .exit)) (now (answer .exit)) ⌝ }
 {
     let f = decode(file);
     let who = agent_of(agent);
     let a = f.initiate(who, d);
-    tell(a, file, answer);
+    tell(a, who, file, answer);
 }
 
 // GENERATE of one record of an agent as detail number `detail`.
@@ -165,12 +199,12 @@ pub extern "C" fn bailcurlew_report_file_generate(
     out: &mut [u8],
     answer: &mut [u64; 3],
 )
-    ensures { λ _. ⌜ Leaves (generateSpec (now (d .entry)) (fileOf (now (file .entry))) (agentOf agent) detail (now (rec .entry)) (now (out .entry))) (now (file .entry)) (now (file .exit)) (now (out .exit)) (now (answer .exit)) ⌝ }
+    ensures { λ _. ⌜ Leaves (generateSpec (now (d .entry)) (fileOf (now (file .entry))) (agentOf agent) detail (now (rec .entry)) (now (out .entry))) (agentOf agent) (now (file .entry)) (now (file .exit)) (now (out .exit)) (now (answer .exit)) ⌝ }
 {
     let f = decode(file);
     let who = agent_of(agent);
     let a = f.generate(who, d, detail, rec, out);
-    tell(a, file, answer);
+    tell(a, who, file, answer);
 }
 
 // TERMINATE of an agent's report.
@@ -182,10 +216,10 @@ pub extern "C" fn bailcurlew_report_file_terminate(
     out: &mut [u8],
     answer: &mut [u64; 3],
 )
-    ensures { λ _. ⌜ Leaves (terminateSpec (now (d .entry)) (fileOf (now (file .entry))) (agentOf agent) (now (out .entry))) (now (file .entry)) (now (file .exit)) (now (out .exit)) (now (answer .exit)) ⌝ }
+    ensures { λ _. ⌜ Leaves (terminateSpec (now (d .entry)) (fileOf (now (file .entry))) (agentOf agent) (now (out .entry))) (agentOf agent) (now (file .entry)) (now (file .exit)) (now (out .exit)) (now (answer .exit)) ⌝ }
 {
     let f = decode(file);
     let who = agent_of(agent);
     let a = f.terminate(who, d, out);
-    tell(a, file, answer);
+    tell(a, who, file, answer);
 }

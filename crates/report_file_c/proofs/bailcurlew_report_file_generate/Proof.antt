@@ -8,7 +8,8 @@ use Rattle.report_file_c.proofs.bailcurlew_report_file_generate.Tie as 
 returns : tie.Need-returns
 returns c =
     let g = c .before .before .before .before .before in
-    leaves (rw (g .before .before .agent-of .ensures, g .before .before .before .decode .ensures) at (g .generate .ensures)) (c .tell .ensures)
+    let e = g .before .before .agent-of .ensures in
+    leaves (rw (e, g .before .before .before .decode .ensures) at (g .generate .ensures)) (rw e at (c .tell .ensures))
 
 pub bailcurlew-report-file-generate-spec : {M : Type 1} → statement M
 bailcurlew-report-file-generate-spec = tie.close (tie.spec (λ c κs. search needs) (λ c κs. search needs) (λ c κs. search needs) (λ c κs. search needs) (λ c. search needs) returns)

@@ -11,12 +11,12 @@ returns : tie.Need-returns
 returns c =
     let i = c .before .before .before .before .before in
     let z = i .before .before .before .before .before in
-    tells _ (z .args .answer .now) (z .pre .1) (i .before .before .number .ensures) (i .before .extra .ensures) (rw (eq-eqb _ 0 (i .if1 .taken)) (c .before .before .encode .ensures))
+    tells _ _ (z .args .answer .now) (z .pre .1) (i .before .before .number .ensures) (i .before .extra .ensures) (rw (eq-eqb _ 0 (i .if1 .taken)) (c .before .before .store .ensures))
 
 returns-2 : tie.Need-returns-2
 returns-2 c =
     let z = c .before .before .before .before .before in
-    tells _ (z .args .answer .now) (z .pre .1) (c .before .before .number .ensures) (c .before .extra .ensures) (rw (ne-eqb _ 0 (c .if1 .left)) refl)
+    tells _ _ (z .args .answer .now) (z .pre .1) (c .before .before .number .ensures) (c .before .extra .ensures) (rw (ne-eqb _ 0 (c .if1 .left)) refl)
 
 pub tell-spec : {M : Type 1} → statement M
 tell-spec =
