@@ -4,12 +4,11 @@ ghost use mathlib.Core.List.{[]};
 ghost use Prim.Native.Nat.{_+_, _≤_};
 ghost use lib.ListN.{length};
 ghost use Rattle.splice.specs.Splice.{splice};
-ghost use Rattle.little_endian.specs.Numbers.{bytes};
 ghost use Rattle.coded.specs.Coded.{codeSize};
 ghost use Rattle.state_bytes.specs.Bytes as stateBytes;
 ghost use Rattle.report_file.specs.File.{freshFile, stateOf};
 ghost use Rattle.report_file.specs.Calls.{initiate as initiateSpec, generate as generateSpec, terminate as terminateSpec};
-ghost use Rattle.report_file_c.specs.Bytes.{codesAt, codesSize, placeAt, fileSize, stateAt, codeBytes, bytesOf, storedIn, codeFrom, codesOf, stateFrom, fileOf, agentOf};
+ghost use Rattle.report_file_c.specs.Bytes.{codesAt, codesSize, fileSize, stateAt, codeBytes, bytesOf, storedIn, codeFrom, codesOf, stateFrom, fileOf, agentOf};
 ghost use Rattle.report_file_c.specs.Leaves.{Leaves, Tells};
 use coded::CODE_SIZE;
 use little_endian::number8;
@@ -52,13 +51,6 @@ fn put_codes(c: Codes, out: &mut [u8])
     splice::copy(&second, CODE_SIZE, CODES_AT + CODE_SIZE, out);
 }
 
-fn put_place(place: usize, out: &mut [u8])
-    requires { ⌜ length (now out) ≡ fileSize ⌝ }
-    ensures { λ _. ⌜ now (out .exit) ≡ splice (now (out .entry)) placeAt (bytes 8 place) ⌝ }
-{
-    put8(place, PLACE_AT, out);
-}
-
 fn encode(f: ReportFile, out: &mut [u8])
     requires { ⌜ length (now out) ≡ fileSize ⌝ }
     ensures { λ _. ⌜ now (out .exit) ≡ bytesOf f ⌝ }
@@ -69,7 +61,7 @@ fn encode(f: ReportFile, out: &mut [u8])
     put_state(first, 0, out);
     put_state(second, SECOND_AT, out);
     put_codes(codes, out);
-    put_place(f.place, out);
+    put8(f.place, PLACE_AT, out);
 }
 
 // An agent's own state.
@@ -94,8 +86,9 @@ fn store(f: ReportFile, agent: Agent, out: &mut [u8])
     requires { ⌜ length (now out) ≡ fileSize ⌝ }
     ensures { λ _. ⌜ now (out .exit) ≡ storedIn (now (out .entry)) agent f ⌝ }
 {
+    let place = f.place;
     put_own(f, agent, out);
-    put_place(f.place, out);
+    put8(place, PLACE_AT, out);
 }
 
 // ---- read

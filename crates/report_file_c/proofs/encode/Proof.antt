@@ -7,7 +7,7 @@ use Rattle.report_file_c.proofs.encode.Statement.{statement}
 use Rattle.report_file_c.proofs.encode.Tie as tie
 
 -- from the place back to the codes, to the second state, to the first, and from there to the start
-abbrev codes : tie.After-put-place → tie.After-put-codes
+abbrev codes : tie.After-put8 → tie.After-put-codes
 codes p = p .before .before .before .before
 
 abbrev second : tie.After-put-codes → tie.After-put-state2
@@ -30,7 +30,7 @@ returns c =
     let s = second k in
     let f = first s in
     let z = start f in
-    written (z .args .f) (sized z) (z .args .out .now) (z .pre) (f .put-state .ensures) (s .put-state2 .ensures) (k .put-codes .ensures) (p .put-place .ensures)
+    written (z .args .f) (sized z) (z .args .out .now) (z .pre) (f .put-state .ensures) (s .put-state2 .ensures) (k .put-codes .ensures) (p .put8 .ensures)
 
 pub encode-spec : {M : Type 1} → statement M
 encode-spec = tie.close (tie.spec (λ c κs. search needs) (λ c κs. search needs) (λ c κs. search needs) (λ c κs. search needs) (λ c. search needs) returns)

@@ -19,7 +19,7 @@ long : (z : tie.Start) → CodesLong (z .args .c)
 long z = search needs
 
 copy-requires : tie.Need-copy-requires
-copy-requires c κs = let z = c .before .before .before .before .before in (omega (arith, long z .firstLong), omega arith)
+copy-requires c κs = let z = c .before .before .before .before .before in (omega (arith, long z .firstLong, long z .secondLong), omega arith)
 
 copy-requires-2 : tie.Need-copy-requires-2
 copy-requires-2 c κs = let z = start (c .before .before .before .before) in (omega (arith, long z .secondLong), search needs)
