@@ -23,10 +23,10 @@ use Rattle.report_file.specs.declared.Codes.{Codes}
 use Rattle.report_file.specs.declared.ReportFile.{ReportFile}
 use Rattle.report_file.specs.declared.Filed.{Filed}
 use Rattle.report_file.specs.Verdict.{number, extra}
-use Rattle.report_file.specs.File.{FiledResult, Files}
+use Rattle.report_file.specs.File.{CodesLong, FiledResult, Files}
 use Rattle.report_file_c.specs.Bytes.{secondAt, codesAt, codesSize, placeAt, fileSize, codeBytes, bytesOf, storedIn, codeFrom}
 use Rattle.report_file_c.specs.Leaves.{stored, numbers, Leaves, Tells}
-use Rattle.report_file_c.specs.Facts.{CodesLong, FileSized}
+use Rattle.report_file_c.specs.Facts.{FileSized}
 
 -- an array of three, set from the front
 three : (l : List ℕ) (x y z : ℕ) → length l ≡ 3 → set (set (set l 0 x) 1 y) 2 z ≡ x ∷ y ∷ z ∷ []

@@ -39,12 +39,12 @@ use Rattle.report_file.specs.declared.Codes.{Codes}
 use Rattle.report_file.specs.declared.ReportFile.{ReportFile}
 use Rattle.report_file.specs.declared.FileVerdict.{FileVerdict}
 use Rattle.report_file.specs.Verdict.{number}
-use Rattle.report_file.specs.File.{stateOf, codeOf, codesOk, moved, freshFile, FiledResult}
+use Rattle.report_file.specs.File.{stateOf, codeOf, CodesLong, codesOk, moved, freshFile, FiledResult}
 use Rattle.book.specs.Book.{Call, initiate, generate, terminate}
 use Rattle.book.specs.Demand as book
 use Rattle.book.proofs.Theorem.{demand3}
 use Rattle.two_sheets.specs.Runs.{AgentCall, isSame, answer, Done, did, run, Left, left, doneFor, alone, own, Seen, seen, seenAlone}
-use Rattle.two_sheets.specs.Claims.{Typed, size, Allowed, TwoSheets}
+use Rattle.two_sheets.specs.Claims.{size, Allowed, TwoSheets}
 use Rattle.two_sheets.proofs.Step.{Fine, Stepped, steps, alone-stands, alone-fine}
 
 -- ---- the two agents
@@ -85,10 +85,10 @@ module _ (f : ReportFile) (s : State) (place : ℕ) where
   moved-codes First = refl
   moved-codes Second = refl
 
-module _ (codes : Codes) (typed : Typed codes) (ok : codesOk codes ≡ true) where
+module _ (codes : Codes) (typed : CodesLong codes) (ok : codesOk codes ≡ true) where
   two-characters : (a : Agent) → length (codeOf codes a) ≡ codeSize
-  two-characters First = typed .first
-  two-characters Second = typed .second
+  two-characters First = typed .firstLong
+  two-characters Second = typed .secondLong
 
   differ : (a : Agent) → carries (codeOf codes (otherOf a)) (codeOf codes a) ≡ false
   differ First = codes-apart (codes .first) (codes .second) ok .1
@@ -101,7 +101,7 @@ later m n a b l e =
     ap (λ (i : ℕ). drop i a) (sym k) ∙ sym (drop-drop (m - n) n a) ∙ ap (drop (m - n)) e ∙ drop-drop (m - n) n b ∙ ap (λ (i : ℕ). drop i b) k
 
 -- ---- one call, then the rest
-module _ (d : List ℕ) (e : checked d ≡ Accepted) (codes : Codes) (typed : Typed codes) (ok : codesOk codes ≡ true) where
+module _ (d : List ℕ) (e : checked d ≡ Accepted) (codes : Codes) (typed : CodesLong codes) (ok : codesOk codes ≡ true) where
   abbrev h : Head
   h = headOf d
 

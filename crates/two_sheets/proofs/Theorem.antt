@@ -7,14 +7,14 @@ use mathlib.Core.List.{List}
 use Rattle.description.specs.declared.Checked.the-variants.{Accepted}
 use Rattle.description.specs.Check.{checked}
 use Rattle.report_file.specs.declared.Codes.{Codes}
-use Rattle.report_file.specs.File.{codesOk}
+use Rattle.report_file.specs.File.{CodesLong, codesOk}
 use Rattle.two_sheets.specs.Runs.{AgentCall}
-use Rattle.two_sheets.specs.Claims.{Typed, TwoSheets, Isolated, Refused11, Demand1}
+use Rattle.two_sheets.specs.Claims.{TwoSheets, Isolated, Refused11, Demand1}
 use Rattle.two_sheets.proofs.Lists as lists
 use Rattle.two_sheets.proofs.Isolation as isolation
 use Rattle.two_sheets.proofs.Refusals as refusals
 
-pub two-sheets : (d : List ℕ) → checked d ≡ Accepted → (codes : Codes) → Typed codes → codesOk codes ≡ true → (out : List ℕ) (cs : List AgentCall) → TwoSheets d codes out cs
+pub two-sheets : (d : List ℕ) → checked d ≡ Accepted → (codes : Codes) → CodesLong codes → codesOk codes ≡ true → (out : List ℕ) (cs : List AgentCall) → TwoSheets d codes out cs
 two-sheets d e codes typed ok out cs = lists.two-sheets d e codes typed ok out cs
 
 pub refused-11 : (d : List ℕ) → checked d ≡ Accepted → Refused11 d

@@ -7,7 +7,7 @@ use mathlib.Core.List.{List, map}
 use lib.ListN.{length, take, drop}
 use Rattle.unpacked.specs.Head.{headOf}
 use Rattle.printed.specs.Printed.{recordSize}
-use Rattle.coded.specs.Coded.{codeSize, codePrefix, takenApart}
+use Rattle.coded.specs.Coded.{codePrefix, takenApart}
 use Rattle.pagination.specs.All.{All}
 use Rattle.state.specs.State.{freshAt}
 use Rattle.report_file.specs.declared.Agent.{Agent}
@@ -27,11 +27,6 @@ pub record Whole (f : ReportFile) (out : List ℕ) (r : FiledResult) : Type 0 wh
 
 abbrev pub Refuses : ReportFile → List ℕ → FiledResult → Type 0
 Refuses f out r = accepted (r .filed .verdict) ≡ false → Whole f out r
-
--- "a code of two characters", as the types say
-pub record Typed (codes : Codes) : Type 0 where
-  pub first : length (codes .first) ≡ codeSize
-  pub second : length (codes .second) ≡ codeSize
 
 module _ (d : List ℕ) where
   -- "W + 12 bytes in all", whichever the code

@@ -2,7 +2,7 @@
 -- Assumes nothing.
 use native.Mathlib.Omega.{arith}
 use borrow.Author.Needs.{needs}
-use Rattle.report_file_c.specs.Facts.{CodesLong}
+use Rattle.report_file.specs.File.{CodesLong}
 use Rattle.report_file_c.proofs.Laws.{codes-put}
 use Rattle.report_file_c.proofs.put_codes.Statement.{statement}
 use Rattle.report_file_c.proofs.put_codes.Tie as tie
