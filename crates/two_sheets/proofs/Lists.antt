@@ -9,7 +9,7 @@ use native.Mathlib.Nat.{zero-mul, add-mul}
 use native.Mathlib.Omega.{arith}
 use borrow.Author.Tests.{not-true, eqb-true, eq-eqb}
 use lib.Dec.{eqb}
-use lib.ListN.{length, getD, take, drop, replicate}
+use lib.ListN.{length, take, drop, replicate, length-append}
 use lib.Seq.{drop-drop, length-take-le}
 use Rattle.counts.proofs.Laws.{and-l, and-r, by-test}
 use Rattle.ascii.specs.Printable.{allPrintable}
@@ -19,6 +19,7 @@ use Rattle.unpacked.specs.Table.{table, characters}
 use Rattle.description.specs.declared.Checked.the-variants.{Accepted}
 use Rattle.description.specs.Check.{checked}
 use Rattle.accepted.proofs.Accept.{accepted as accepts}
+use Rattle.printed.specs.Printed.{noPrefix, recordSize}
 use Rattle.coded.specs.Coded as coded
 use Rattle.coded.specs.Coded.{codeSize, codePrefix, carries, takenApart}
 use Rattle.coded.proofs.Laws.{codes-apart, apart-nil, apart-append}
@@ -66,6 +67,11 @@ by-agent P First p q First = p
 by-agent P First p q Second = q
 by-agent P Second p q First = q
 by-agent P Second p q Second = p
+
+-- a sum over both
+both-of : (g : Agent → ℕ) (a : Agent) → g First + g Second ≡ g a + g (otherOf a)
+both-of g First = refl
+both-of g Second = omega arith
 
 -- what a call leaves of the other's
 module _ (f : ReportFile) (s : State) (place : ℕ) where
@@ -125,7 +131,10 @@ module _ (d : List ℕ) (e : checked d ≡ Accepted) (codes : Codes) (typed : Co
     refusals : All (Allowed d) (run d f out cs)
     answers : (a : Agent) → map (seen d a) (doneFor d a (run d f out cs)) ≡ map (seenAlone d) (own d a (stateOf f a) (run d f out cs))
     sheets : (a : Agent) → takenApart (code a) (size d (code a)) (take (left d f out cs .file .place) (left d f out cs .out)) ≡ takenApart (code a) (size d (code a)) (take (f .place) out) ++ book.printed d (own d a (stateOf f a) (run d f out cs))
-    onward : f .place ≤ left d f out cs .file .place
+    rows : ℕ
+    onward : left d f out cs .file .place ≡ f .place + rows * size d []
+    both : length (book.printed d (own d First (stateOf f First) (run d f out cs))) + length (book.printed d (own d Second (stateOf f Second) (run d f out cs))) ≡ rows * recordSize noPrefix (h .width)
+    long : length (left d f out cs .out) ≡ length out
     inside : left d f out cs .file .place ≤ length out
     behind : drop (left d f out cs .file .place) (left d f out cs .out) ≡ drop (left d f out cs .file .place) out
 
@@ -135,7 +144,10 @@ module _ (d : List ℕ) (e : checked d ≡ Accepted) (codes : Codes) (typed : Co
     refusals = tt;
     answers = λ a. refl;
     sheets = λ a. sym (append-nil (takenApart (code a) (size d (code a)) (take (f .place) out)));
+    rows = 0;
     onward = omega arith;
+    both = omega arith;
+    long = refl;
     inside = I .inside;
     behind = refl;
   }
@@ -259,13 +271,33 @@ module _ (d : List ℕ) (e : checked d ≡ Accepted) (codes : Codes) (typed : Co
           ∙ ap (λ (l : List ℕ). l ++ book.printed d (own d (otherOf A) (stateOf f' (otherOf A)) xs)) (front-apart (otherOf A) ∙ ap (λ (l : List ℕ). before (otherOf A) ++ l) (step .none) ∙ append-nil (before (otherOf A)))
           ∙ sym (ap (λ (l : List (book.Done d)). before (otherOf A) ++ book.printed d l) own-other)
 
+      -- how many bytes each sheet has, from here on and behind the call
+      abbrev now : Agent → ℕ
+      now b = length (book.printed d (own d b (stateOf f b) (x ∷ xs)))
+
+      abbrev later-on : Agent → ℕ
+      later-on b = length (book.printed d (own d b (stateOf f' b) xs))
+
+      now-first : now A ≡ step .rows * recordSize noPrefix (h .width) + later-on A
+      unfolding book.printed
+      now-first =
+          ap (λ (l : List (book.Done d)). length (book.printed d l)) own-first
+          ∙ length-append (take (z .answer .count) (z .out)) (book.printed d (own d A (stateOf f' A) xs))
+          ∙ ap (λ (n : ℕ). n + later-on A) (step .plain)
+
+      now-other : now (otherOf A) ≡ later-on (otherOf A)
+      now-other = ap (λ (l : List (book.Done d)). length (book.printed d l)) own-other
+
       holds-next : Holds f out (c ∷ cs)
       unfolding run left
       holds-next = record {
         refusals = (rw (step .verdict) (fine-after (c .call) (alone d x .out)), H .refusals);
         answers = by-agent Answers A answers-first answers-other;
         sheets = by-agent Sheets A sheets-first sheets-other;
-        onward = omega (arith, H .onward, next-place);
+        rows = step .rows + H .rows;
+        onward = omega (arith, H .onward, next-place, step .whole, add-mul (step .rows) (H .rows) (size d []));
+        both = omega (arith, both-of now A, both-of later-on A, now-first, now-other, H .both, add-mul (step .rows) (H .rows) (recordSize noPrefix (h .width)));
+        long = H .long ∙ step .long;
         inside = omega (arith, H .inside, step .long);
         behind = H .behind ∙ later (left d f' out' cs .file .place) (f .place + length (step .lines)) out' out (omega (arith, H .onward, next-place)) (step .behind);
       }
@@ -296,6 +328,10 @@ module _ (d : List ℕ) (e : checked d ≡ Accepted) (codes : Codes) (typed : Co
         sheets = λ a. rw (fresh-own a) at (H .sheets a) ∙ ap (λ (l : List ℕ). l ++ book.printed d (own d a (freshAt 0) (run d (freshFile codes) out cs))) (apart-nil (code a) (omega arith));
         answers = λ a. rw (fresh-own a) at (H .answers a);
         demand3 = λ a. demand3 d e (map (alone d) (doneFor d a (run d (freshFile codes) out cs)));
+        records = H .rows;
+        whole = length-take-le (left d (freshFile codes) out cs .file .place) (left d (freshFile codes) out cs .out) (omega (arith, H .inside, H .long)) ∙ H .onward ∙ omega arith;
+        both = H .both;
+        long = H .long;
         inside = H .inside;
         behind = H .behind;
       }

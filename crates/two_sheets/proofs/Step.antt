@@ -150,6 +150,7 @@ pub record Stepped (d : List ℕ) (agent : Agent) (code other : List ℕ) (f : R
   pub none : takenApart other (recordSize (codePrefix code) (headOf d .width)) lines ≡ []
   pub rows : ℕ
   pub whole : length lines ≡ rows * recordSize (codePrefix code) (headOf d .width)
+  pub plain : length (take (z .answer .count) (z .out)) ≡ rows * recordSize noPrefix (headOf d .width)
   pub common : take (f .place + length lines) (r .out) ≡ take (f .place) out ++ lines
   pub room : f .place + length lines ≤ length out
   pub long : length (r .out) ≡ length out
@@ -222,6 +223,7 @@ module _ (d : List ℕ) (e : checked d ≡ Accepted) (f : ReportFile) (ok : code
     none = apart-nil other (omega arith);
     rows = 0;
     whole = omega arith;
+    plain = rw q (omega arith);
     common = rw add-zero (sym (append-nil (take (f .place) out)));
     room = omega arith;
     long = refl;
@@ -251,6 +253,7 @@ module _ (d : List ℕ) (e : checked d ≡ Accepted) (f : ReportFile) (ok : code
         none = twin .lines .none;
         rows = twin .lines .rows;
         whole = twin .lines .long;
+        plain = rw q (ap length (front-lines (replicate (length lines) 0) (plainRow .lines)) ∙ twin .lines .plain);
         common = put-common out (f .place) lines (omega arith);
         room = omega arith;
         long = put-long out (f .place) lines (omega arith);

@@ -1,16 +1,17 @@
 -- What is claimed of two agents' sheets in one output.
-use Prim.Native.Nat.{ℕ, _≤_}
+use Prim.Native.Nat.{ℕ, _+_, _*_, _≤_}
 use mathlib.Core.Path.{_≡_}
 use mathlib.Core.Bool.{false}
 use mathlib.Core.Logic.{_⊎_}
-use mathlib.Core.List.{List, map}
+use mathlib.Core.List.{List, [], map}
 use lib.ListN.{length, take, drop}
 use Rattle.unpacked.specs.Head.{headOf}
-use Rattle.printed.specs.Printed.{recordSize}
+use Rattle.printed.specs.Printed.{noPrefix, recordSize}
 use Rattle.coded.specs.Coded.{codePrefix, takenApart}
 use Rattle.pagination.specs.All.{All}
 use Rattle.state.specs.State.{freshAt}
 use Rattle.report_file.specs.declared.Agent.{Agent}
+use Rattle.report_file.specs.declared.Agent.the-variants.{First, Second}
 use Rattle.report_file.specs.declared.Codes.{Codes}
 use Rattle.report_file.specs.declared.ReportFile.{ReportFile}
 use Rattle.report_file.specs.declared.FileVerdict.the-variants.{BadCodes}
@@ -62,11 +63,16 @@ module _ (d : List ℕ) where
       pub refusals : All Allowed calls
       -- "lines carrying one code, taken in order, are those that agent's accepted calls would print with the output to themselves", the code taken off
       pub sheets : (agent : Agent) → takenApart (codeOf codes agent) (size (codeOf codes agent)) common ≡ printed d (own d agent (freshAt 0) calls)
+      -- and no others: the file has as many records as the two sheets together
+      pub records : ℕ
+      pub whole : length common ≡ records * size []
+      pub both : length (printed d (own d First (freshAt 0) calls)) + length (printed d (own d Second (freshAt 0) calls)) ≡ records * recordSize noPrefix (headOf d .width)
       -- call by call the same verdict, the refused ones too, and the same state
       pub answers : (agent : Agent) → map (seen d agent) (doneFor d agent calls) ≡ map (seenAlone d) (own d agent (freshAt 0) calls)
       -- "Demands 2 and 3 read for each agent's own calls, in that agent's lines with the code taken off."
       pub demand3 : (agent : Agent) → Demand3 d (own d agent (freshAt 0) calls)
       -- no other byte is written
+      pub long : length (end .out) ≡ length out
       pub inside : end .file .place ≤ length out
       pub behind : drop (end .file .place) (end .out) ≡ drop (end .file .place) out
 
