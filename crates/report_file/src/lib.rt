@@ -4,6 +4,7 @@ ghost use mathlib.Core.List.{[]};
 ghost use mathlib.Core.Bool.{Bool};
 ghost use Prim.Native.Nat.{_+_, _≤_};
 ghost use lib.ListN.{length};
+ghost use Rattle.printed.specs.Printed.{Short};
 ghost use Rattle.coded.specs.Coded.{codePrefix};
 ghost use Rattle.description.specs.Facts.{TableRoom};
 ghost use Rattle.accepted.specs.Accepted.{Accepted};
@@ -97,7 +98,7 @@ fn state_of(f: ReportFile, agent: Agent) -> State
 
 // The agent's code, as what stands in front of each record.
 fn prefix_of(c: Codes, agent: Agent) -> Prefix
-    ensures { λ r. ⌜ r ≡ codePrefix (codeOf c agent) ⌝ }
+    ensures { λ r. ⌜ (r ≡ codePrefix (codeOf c agent)) × Short r ⌝ }
 {
     match agent {
         Agent::First => {
@@ -224,20 +225,22 @@ fn call_in(
     match checked {
         Checked::Broken(rule) => refusal(f, FileVerdict::Call(Verdict::Description(rule))),
         Checked::Accepted => {
-            call_on(t, h, description::characters_in(d, h), f, agent, asked, rec, out)
+            call_on(
+                t,
+                h,
+                description::characters_in(d, h),
+                f,
+                agent,
+                asked,
+                rec,
+                out,
+            )
         }
     }
 }
 
 // What is asked, under any description.
-fn call(
-    f: ReportFile,
-    agent: Agent,
-    d: &[u8],
-    asked: Asked,
-    rec: &[u8],
-    out: &mut [u8],
-) -> Filed
+fn call(f: ReportFile, agent: Agent, d: &[u8], asked: Asked, rec: &[u8], out: &mut [u8]) -> Filed
     ensures { λ r. ⌜ Files (callSpec (now (d .entry)) f agent asked (now (rec .entry)) (now (out .entry))) r (now (out .exit)) ⌝ }
 {
     let Opened::With(h) = unpacked::opening_of(d) else {
