@@ -1,6 +1,6 @@
 -- Records with a code in front: which code a record carries, and a file of such records taken apart by code. Assumes nothing: these are definitions.
-use Prim.Native.Nat.{ℕ, _*_, _/_}
-use mathlib.Core.Bool.{Bool, cond, _&&_, not}
+use Prim.Native.Nat.{ℕ, _*_, _/_, _-_}
+use mathlib.Core.Bool.{Bool, cond, _&&_, _||_, not}
 use mathlib.Core.List.{List, []}
 use lib.Dec.{eqb}
 use lib.ListN.{length, getD, take, drop}
@@ -35,3 +35,11 @@ plainIf code bytes = cond (carries code bytes) (drop codeSize bytes) []
 -- "lines carrying one code, taken in order"; what stands behind the last whole record is no line
 unfoldable pub takenApart : List ℕ → ℕ → List ℕ → List ℕ
 takenApart code size file = joinBelow (length file / size) (λ k. plainIf code (recordAt size file k))
+
+-- a line of one of two reports: a record that carries one of two codes and ends in byte 10
+abbrev pub isLine : List ℕ → List ℕ → ℕ → List ℕ → Bool
+isLine one two size bytes = (carries one bytes || carries two bytes) && eqb (getD bytes (size - 1) 0) 10
+
+-- whole record k of a file is no line of the two reports. A program that takes a file apart tells a damaged file by the first of these
+abbrev pub stray : List ℕ → List ℕ → ℕ → List ℕ → ℕ → Bool
+stray one two size file k = not (isLine one two size (recordAt size file k))

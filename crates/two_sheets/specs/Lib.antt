@@ -1,0 +1,3 @@
+-- Two agents' sheets in one output.
+pub mod Runs
+pub mod Claims
