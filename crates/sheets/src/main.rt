@@ -210,9 +210,14 @@ fn finish(d: &[u8], s: Sheets, out: &mut [u8]) {
 }
 
 // INITIATE, the rows, TERMINATE, of both.
-fn print_sheets(d: &[u8], codes: Codes, order: Order, progress: bool) {
-    let mut buffer = [0u8; row_order::ROOM];
-    let mut out = [0u8; console::CALL_ROOM];
+fn print_sheets(
+    d: &[u8],
+    codes: Codes,
+    order: Order,
+    progress: bool,
+    buffer: &mut [u8],
+    out: &mut [u8],
+) {
     let start = Sheets {
         file: ReportFile::fresh(codes),
         order,
@@ -220,9 +225,9 @@ fn print_sheets(d: &[u8], codes: Codes, order: Order, progress: bool) {
         more: true,
         whole: true,
     };
-    let s = for_both(d, start, Asked::Initiate, &mut out);
-    let t = print_rows(d, s, &mut buffer, &mut out);
-    finish(d, t, &mut out);
+    let s = for_both(d, start, Asked::Initiate, out);
+    let t = print_rows(d, s, buffer, out);
+    finish(d, t, out);
 }
 
 // ---- files and arguments
@@ -232,7 +237,9 @@ fn print_records(d: &[u8], first: usize, list: usize, codes: Codes, progress: bo
     let two = std::num::wrapping_add_usize(first, 4);
     let order = row_order::begun(one, two, list, words::record_length(d));
     if row_order::is_sound(order) {
-        print_sheets(d, codes, order, progress);
+        let mut buffer = [0u8; row_order::ROOM];
+        let mut out = [0u8; console::CALL_ROOM];
+        print_sheets(d, codes, order, progress, &mut buffer, &mut out);
     }
 }
 
