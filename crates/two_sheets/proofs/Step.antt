@@ -242,7 +242,7 @@ module _ (d : List ℕ) (e : checked d ≡ Accepted) (f : ReportFile) (ok : code
       let fewer = rows-fewer (twin .lines .rows) (recordSize noPrefix (headOf d .width)) (recordSize (codePrefix mine) (headOf d .width)) (omega arith) in
       let fits : length (plainRow .lines) ≤ length {A = ℕ} (replicate (length lines) 0) = omega (arith, fewer, twin .lines .long, twin .lines .plain, length-replicate {A = ℕ} (length lines) 0) in
       let q : report.call d (stateOf f agent) a row (replicate (length lines) 0) ≡ record { answer = record { verdict = plainRow .verdict; count = length (plainRow .lines); state = plainRow .state }; out = splice (replicate (length lines) 0) 0 (plainRow .lines) }
-        = rw (alone-is d e (stateOf f agent) a row (replicate (length lines) 0), ← twin .verdict, v, le-ltb (length {A = ℕ} (replicate (length lines) 0)) (length (plainRow .lines)) fits) refl in
+      = rw (alone-is d e (stateOf f agent) a row (replicate (length lines) 0), ← twin .verdict, v, le-ltb (length {A = ℕ} (replicate (length lines) 0)) (length (plainRow .lines)) fits) refl in
       record {
         verdict = rw q (ap Call (twin .verdict));
         lines = lines;
