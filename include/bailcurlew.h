@@ -1,18 +1,21 @@
-/* The calls of Bailcurlew for C: CHECK, INITIATE, GENERATE and TERMINATE, and the feeder, which takes the records
- * in pieces cut anywhere. docs/ABI.md tells more.
+/* The calls of Bailcurlew for C: CHECK, INITIATE, GENERATE and TERMINATE; the feeder, which takes the records in
+ * pieces cut anywhere; and the report file, two agents' reports in one output. docs/ABI.md tells more.
  *
  * Link with target/staticlib/libreport_c.a (-lreport_c); for the calls of the feeder also, or only, with
- * target/staticlib/libfeeder_c.a (-lfeeder_c). No call allocates, keeps a pointer or needs anything checked
- * beforehand: any bytes are taken as description, state, record, feeder and chunk. What the caller must guarantee:
+ * target/staticlib/libfeeder_c.a (-lfeeder_c), for those of the report file with
+ * target/staticlib/libreport_file_c.a (-lreport_file_c). No call allocates, keeps a pointer or needs anything
+ * checked beforehand: any bytes are taken as description, state, record, feeder, chunk, codes and report file. What
+ * the caller must guarantee:
  *
  * - No pointer is NULL, also where its length is 0; a pointer with length 0 is never read or written through
  *   and may point anywhere else.
  * - `description`, `record`, `chunk` and `output` point to as many bytes as the length beside them says (`length`,
  *   `record_length`, `chunk_length`, `room`), at most PTRDIFF_MAX; `state` to BAILCURLEW_STATE bytes, `feeder` to
- *   BAILCURLEW_FEEDER; `answer` to three uint64_t, for the feeder's calls to four, aligned as such. They stay
- *   valid, and nobody else writes them, until the call returns.
- * - What a call writes (`state`, `feeder`, `output`, `answer`) overlaps nothing else that it is lent.
- *   `description`, `record` and `chunk` are only read and may overlap each other.
+ *   BAILCURLEW_FEEDER, `file` to BAILCURLEW_REPORT_FILE, `codes` to BAILCURLEW_CODES; `answer` to three uint64_t,
+ *   for the feeder's calls to four, aligned as such. They stay valid, and nobody else writes them, until the call
+ *   returns.
+ * - What a call writes (`state`, `feeder`, `file`, `output`, `answer`) overlaps nothing else that it is lent.
+ *   `description`, `record`, `chunk` and `codes` are only read and may overlap each other.
  *
  * Length 0 is an answer like any other: an empty description breaks rule 1 (refusal 1, extra number 1); an empty
  * record has not the described length (refusal 5, unless 1 to 4 come first); an empty chunk is refused with 18;
@@ -43,14 +46,25 @@ extern "C" {
 /* The most bytes of a chunk. */
 #define BAILCURLEW_CHUNK 4096
 
+/* Bytes of two codes: two of the first agent, two of the second. */
+#define BAILCURLEW_CODES 4
+
+/* Bytes of a report file: the first agent's state at 0, the second's at 530, their codes 2 at 1060 and 2 at 1062, the
+ * place 8 at 1064. */
+#define BAILCURLEW_REPORT_FILE 1072
+
+/* The agents. Every number but 0 is the second. */
+#define BAILCURLEW_FIRST 0
+#define BAILCURLEW_SECOND 1
+
 /* Places in an answer. */
 #define BAILCURLEW_NUMBER 0 /* 0 accepted, else the refusal's number */
 #define BAILCURLEW_EXTRA 1  /* the refusal's extra number, else 0 */
 #define BAILCURLEW_COUNT 2  /* bytes written to the output */
 #define BAILCURLEW_TAKEN 3  /* bytes taken of the chunk; the feeder's calls only */
 
-/* The refusals. 1 to 9 are tried in this order; 18 before 1, 10 after 3. 5 is GENERATE's alone, 10 and 18 are the
- * feeder's. */
+/* The refusals. 1 to 9 are tried in this order; 18 before 1, 11 after 1, 10 after 3. 5 is GENERATE's alone, 10 and 18
+ * are the feeder's, 11 is the report file's. */
 enum bailcurlew_refusal {
     BAILCURLEW_ACCEPTED = 0,
     BAILCURLEW_DESCRIPTION = 1, /* the description breaks a rule; extra: the first one, 1 to 9 */
@@ -61,8 +75,9 @@ enum bailcurlew_refusal {
     BAILCURLEW_MALFORMED = 6,   /* a field's bytes are malformed; extra: the first such field, from 0 */
     BAILCURLEW_SUM = 7,         /* an addition would leave the sum range */
     BAILCURLEW_PAGE = 8,        /* a page change would pass page 999,999 */
-    BAILCURLEW_ROOM = 9,        /* the output is shorter than the call's lines need */
+    BAILCURLEW_ROOM = 9,        /* the output has less room than the call's lines need, or ends before the place */
     BAILCURLEW_UNFINISHED = 10, /* the feeder's TERMINATE with bytes held; extra: how many */
+    BAILCURLEW_BAD_CODES = 11,  /* the codes are equal, or a byte of them is outside 32 to 126 */
     BAILCURLEW_BAD_CHUNK = 18   /* a chunk of 0 bytes or of over BAILCURLEW_CHUNK */
 };
 
@@ -118,6 +133,36 @@ void bailcurlew_feeder_discard(uint8_t feeder[BAILCURLEW_FEEDER]);
 /* TERMINATE ends the report: the footings still due. Refusals: 1, 2, 3, 10 while bytes are held, 7, 8, 9. */
 void bailcurlew_feeder_terminate(const uint8_t *description, size_t length, uint8_t feeder[BAILCURLEW_FEEDER],
                                  uint8_t *output, size_t room, uint64_t answer[4]);
+
+/* ---- the report file: the reports of two agents under one description, printed into one output */
+
+/* Writes a fresh report file: two fresh states, the codes as they are, place 0. Codes that tell no records apart are
+ * taken, and refused by the calls below. */
+void bailcurlew_report_file_fresh(const uint8_t codes[BAILCURLEW_CODES], uint8_t file[BAILCURLEW_REPORT_FILE]);
+
+/* The three calls below are those of one agent's report, `agent` BAILCURLEW_FIRST or BAILCURLEW_SECOND; the calls of
+ * the two may alternate freely. Each printed record has the agent's code in front, W + 12 bytes in all. `output` is
+ * the whole common output, the same in each call: the lines go behind those of the calls before, from the place that
+ * the report file keeps. Accepted, the count bytes from that place on are the call's lines, the bytes of `output`
+ * before and behind them stay as they were, and `file` has the agent's next state and the place behind the lines.
+ * Refused, `file` and all of `output` stay as they were. */
+
+/* INITIATE begins the agent's report; it prints nothing and does not look at the place. Refusals: 1, 11, 2, 3. */
+void bailcurlew_report_file_initiate(const uint8_t *description, size_t length,
+                                     uint8_t file[BAILCURLEW_REPORT_FILE], uint32_t agent, uint64_t answer[3]);
+
+/* GENERATE prints one record of the agent as detail number `detail`, counted from 0. Refusals: 1, 11, then 2 to 9 as
+ * for the agent's own report; 9 is for less room behind the place than the lines need, and for a place past the
+ * output's end, also where the call prints nothing. */
+void bailcurlew_report_file_generate(const uint8_t *description, size_t length,
+                                     uint8_t file[BAILCURLEW_REPORT_FILE], uint32_t agent, size_t detail,
+                                     const uint8_t *record, size_t record_length, uint8_t *output, size_t room,
+                                     uint64_t answer[3]);
+
+/* TERMINATE ends the agent's report: the footings still due. Refusals: 1, 11, 2, 3, 7, 8, 9. */
+void bailcurlew_report_file_terminate(const uint8_t *description, size_t length,
+                                      uint8_t file[BAILCURLEW_REPORT_FILE], uint32_t agent, uint8_t *output,
+                                      size_t room, uint64_t answer[3]);
 
 #ifdef __cplusplus
 }

@@ -10,8 +10,9 @@
 enum { STACK = 1 << 20, PAINT = 0xa5 };
 
 static uint8_t description[65536], records[1 << 20], output[ROOM], state[BAILCURLEW_STATE], feeder[BAILCURLEW_FEEDER];
+static uint8_t file[BAILCURLEW_REPORT_FILE], *common;
 static uint64_t answer[4];
-static size_t length, step, at, piece;
+static size_t length, step, at, piece, room;
 static uint8_t *painted;
 
 static void *nothing(void *unused)
@@ -58,6 +59,24 @@ static void *feed(void *unused)
 static void *feeder_terminate(void *unused)
 {
     bailcurlew_feeder_terminate(description, length, feeder, output, sizeof output, answer);
+    return unused;
+}
+
+static void *file_initiate(void *unused)
+{
+    bailcurlew_report_file_initiate(description, length, file, BAILCURLEW_SECOND, answer);
+    return unused;
+}
+
+static void *file_generate(void *unused)
+{
+    bailcurlew_report_file_generate(description, length, file, BAILCURLEW_SECOND, 0, records + at, step, common, room, answer);
+    return unused;
+}
+
+static void *file_terminate(void *unused)
+{
+    bailcurlew_report_file_terminate(description, length, file, BAILCURLEW_SECOND, common, room, answer);
     return unused;
 }
 
@@ -141,5 +160,18 @@ int main(int argc, char **argv)
     most = end > 0 ? fed_in_chunks(end, BAILCURLEW_CHUNK) : base;
     printf("feeder feed %zu\n", most - base);
     printf("feeder terminate %zu\n", accepted(used(feeder_terminate)) - base);
+
+    /* The calls of the second agent; the common output has room for the lines of all of them. */
+    room = (end / step + 1) * 2 * ROOM;
+    common = malloc(room);
+    expect(common != NULL, "malloc");
+    bailcurlew_report_file_fresh((const uint8_t *)"NOSO", file);
+    printf("report file initiate %zu\n", accepted(used(file_initiate)) - base);
+    for (at = 0, most = base; at < end; at += step) {
+        size_t now = accepted(used(file_generate));
+        most = now > most ? now : most;
+    }
+    printf("report file generate %zu\n", most - base);
+    printf("report file terminate %zu\n", accepted(used(file_terminate)) - base);
     return 0;
 }

@@ -95,6 +95,46 @@ fn a_c_program_is_told_the_feeders_refusals() {
     }
 }
 
+/// Two agents with the example's rows, the second by any number but 0: lines of each one's code are the example's sheet.
+#[test]
+fn a_c_program_prints_two_sheets_in_one() {
+    let program = compiled("report_file", &["-lreport_file_c"], "c_report_file");
+    for name in ["whole_run", "day_sheet", "pictures"] {
+        let sheet = std::fs::read(example(name, "sheet")).expect("the example's sheet");
+        let width = 1 + sheet.iter().position(|&byte| byte == b'\n').expect("a line");
+        for second in ["1", "2", "256", "2147483648", "4294967295"] {
+            let output = two_sheets(&program, name, second, "1000000");
+            assert!(output.status.success(), "{}", shown(&output));
+            for code in [b"NO", b"SO"] {
+                let lines = output.stdout.chunks(width + 2).filter_map(|line| line.strip_prefix(code));
+                let taken: Vec<u8> = lines.flatten().copied().collect();
+                assert!(taken == sheet, "{name}, second agent {second}");
+            }
+        }
+    }
+}
+
+/// What the C program says where the second agent is the first again, and where the common output is a byte too short.
+#[test]
+fn a_c_program_is_told_the_report_files_refusals() {
+    let program = compiled("report_file", &["-lreport_c", "-lreport_file_c"], "c_report_file_refused");
+    for (second, room, message, printed) in [
+        ("0", "1000", "INITIATE: refusal 3, extra number 0\n", 0),
+        ("1", "383", "TERMINATE: refusal 9, extra number 0\n", 360),
+        ("1", "47", "GENERATE: refusal 9, extra number 0\n", 0),
+    ] {
+        let output = two_sheets(&program, "whole_run", second, room);
+        let told = (output.status.code(), shown(&output), output.stdout.len());
+        assert_eq!(told, (Some(1), message.to_string(), printed));
+    }
+    assert!(two_sheets(&program, "whole_run", "1", "384").status.success());
+}
+
+fn two_sheets(program: &Path, name: &str, second: &str, room: &str) -> Output {
+    let rows = example(name, "rows");
+    run(Command::new(program).arg(example(name, "desc")).args([&rows, &rows]).args([second, room]))
+}
+
 /// The header alone, as C and as C++ where there is a compiler for it.
 #[test]
 fn the_header_stands_alone() {

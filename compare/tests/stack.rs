@@ -9,8 +9,8 @@ use second::description::check;
 use second::report::{generate, initiate, terminate};
 use second::state::State;
 
-/// The calls of a report and those of the feeder, one line each.
-const TOLD: usize = 7;
+/// The calls of a report, of the feeder and of the report file, one line each.
+const TOLD: usize = 10;
 
 /// Bytes of stack; what is measured is less.
 const BOUND: usize = 36_864;
@@ -28,8 +28,8 @@ fn compiled() -> PathBuf {
     let mut compiler = Command::new("cc");
     compiler.args(["-std=c99", "-pedantic", "-Wall", "-Wextra", "-Werror", "-O2"]);
     compiler.arg("-I").arg(at("../include")).arg(at("c/stack.c")).arg("-L").arg(library());
-    let output =
-        compiler.args(["-lreport_c", "-lfeeder_c", "-lpthread", "-o"]).arg(&program).output().expect("cc");
+    compiler.args(["-lreport_c", "-lfeeder_c", "-lreport_file_c", "-lpthread", "-o"]);
+    let output = compiler.arg(&program).output().expect("cc");
     assert!(output.status.success(), "{}", String::from_utf8_lossy(&output.stderr));
     program
 }

@@ -6,11 +6,16 @@
 //!
 //! For R-6 it draws `explained_case`s and tells an `Explainer` each accepted step that `goes_on`; `Explained::run` does
 //! so with the second program alone.
+//!
+//! For R-7 it draws `two_case`s, whose `Interleaving` gives `TwoStep`s in the same way; `Interleaved::run` plays them with
+//! the second program and each agent's calls once more alone.
 
 mod broken;
 mod draft;
 mod explained;
 mod features;
+mod interleaved;
+mod interleaving;
 mod keep;
 mod pictures;
 mod rng;
@@ -28,6 +33,8 @@ mod walk;
 
 pub use draft::{Block, Count, Draft, Page, Row};
 pub use explained::{explained_case, summing_description, Explained};
+pub use interleaved::Interleaved;
+pub use interleaving::{play_two, two_case, Interleaving, TwoCase, TwoStep};
 pub use keep::call as keeps;
 pub use rng::Rng;
 pub use sample::{damaged, sample, Sample};
@@ -104,22 +111,26 @@ pub fn play(desc: &[u8], step: &Step) -> (Answer, Vec<u8>) {
 
 const HELP: &str = "second cases: random cases against the second program
 
-  second cases [--seed N] [--descriptions N] [--calls N] [--footings N] [--all]
+  second cases [--seed N] [--descriptions N] [--calls N] [--footings N] [--two-calls N] [--all]
   second cases --case N
   second cases --explained-case N
+  second cases --two-case N
 
   --seed N          where chance begins (1)
   --descriptions N  how many descriptions CHECK gets (50000)
   --calls N         how many calls are made after that, at least (100000)
   --footings N      how many footings are then explained from the rows (R-6), at least (100000)
+  --two-calls N     how many calls of two agents are then made (R-7), at least (100000)
   --all             list every feature with its count
   --case N          show one case: its description, its calls and their answers
   --explained-case N  the same of a case of R-6
+  --two-case N      the same of a case of R-7
 
 Prints how often each rule and refusal was reached. Ends with 1 where one was not reached, where a
 clause of rule 9 or a feature of pictures was not reached 100 times, one of signs 100 or 25 times, one of
-R-6 100 to 1000 times, where an answer was not what any implementation must give, or where a sum was not
-as explained under a description that keeps R-6's condition; else with 0.
+R-6 or R-7 15 to 10000 times, where an answer was not what any implementation must give, where a sum was
+not as explained under a description that keeps R-6's condition, or where one of two agents was not
+answered as it is alone; else with 0.
 ";
 
 #[derive(Clone, Debug)]
@@ -128,8 +139,26 @@ struct Amounts {
     descriptions: usize,
     calls: usize,
     footings: u64,
+    two_calls: u64,
     all: bool,
     case: Option<Case>,
+    two_case: Option<TwoCase>,
+}
+
+impl Amounts {
+    /// The usual amounts.
+    fn usual() -> Amounts {
+        Amounts {
+            seed: 1,
+            descriptions: 50_000,
+            calls: 100_000,
+            footings: 100_000,
+            two_calls: 100_000,
+            all: false,
+            case: None,
+            two_case: None,
+        }
+    }
 }
 
 /// The command `second cases`; gives the exit code.
@@ -140,6 +169,7 @@ pub fn main(args: &[String]) -> i32 {
     }
     match read_args(args) {
         Ok(Amounts { case: Some(case), .. }) => show_case(case),
+        Ok(Amounts { two_case: Some(case), .. }) => interleaved::show_case(case),
         Ok(amounts) => run_and_report(amounts),
         Err(wrong) => {
             eprintln!("second cases: {wrong}; --help tells more");
@@ -149,8 +179,7 @@ pub fn main(args: &[String]) -> i32 {
 }
 
 fn read_args(args: &[String]) -> Result<Amounts, String> {
-    let mut amounts =
-        Amounts { seed: 1, descriptions: 50_000, calls: 100_000, footings: 100_000, all: false, case: None };
+    let mut amounts = Amounts::usual();
     let mut args = args.iter();
     while let Some(name) = args.next() {
         if name == "--all" {
@@ -164,8 +193,10 @@ fn read_args(args: &[String]) -> Result<Amounts, String> {
             "--descriptions" => amounts.descriptions = value().ok_or_else(wanted)? as usize,
             "--calls" => amounts.calls = value().ok_or_else(wanted)? as usize,
             "--footings" => amounts.footings = value().ok_or_else(wanted)?,
+            "--two-calls" => amounts.two_calls = value().ok_or_else(wanted)?,
             "--case" => amounts.case = Some(case(value().ok_or_else(wanted)?)),
             "--explained-case" => amounts.case = Some(explained_case(value().ok_or_else(wanted)?)),
+            "--two-case" => amounts.two_case = Some(two_case(value().ok_or_else(wanted)?)),
             _ => return Err(format!("{name} is unknown")),
         }
     }
@@ -176,12 +207,15 @@ fn run_and_report(amounts: Amounts) -> i32 {
     let run = Run::of(&amounts, &|line| eprintln!("{line}"));
     let explained = Explained::run(amounts.seed, amounts.footings);
     eprintln!("{} footings explained", explained.footings);
+    let interleaved = Interleaved::run(amounts.seed, amounts.two_calls);
+    eprintln!("{} calls of two agents", interleaved.calls);
     print!("{}{}", run.tally.report(amounts.all), explained.report(amounts.all));
-    let missing = [run.tally.missing(), explained.missing()].concat();
+    print!("{}", interleaved.report(amounts.all));
+    let missing = [run.tally.missing(), explained.missing(), interleaved.missing()].concat();
     for name in &missing {
         println!("NOT REACHED: {name}");
     }
-    let wrong = [run.wrong, explained.wrong].concat();
+    let wrong = [run.wrong, explained.wrong, interleaved.wrong].concat();
     for line in &wrong {
         println!("WRONG: {line}");
     }
@@ -445,8 +479,7 @@ mod tests {
 
     #[test]
     fn a_small_run_reaches_every_rule_and_refusal() {
-        let amounts =
-            Amounts { seed: 1, descriptions: 4_000, calls: 10_000, footings: 0, all: false, case: None };
+        let amounts = Amounts { descriptions: 4_000, calls: 10_000, ..Amounts::usual() };
         let run = Run::of(&amounts, &|_| {});
         assert_eq!(run.wrong, Vec::<String>::new());
         let missing = run.tally.missing();

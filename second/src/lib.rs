@@ -1,12 +1,12 @@
-//! The second program: document 01, and requests of document 02, implemented plainly, to
-//! compare with the first.
+//! The second program: document 01, and requests of document 02, implemented plainly, to compare
+//! with the first.
 //!
 //! description bytes -> `description` -> tables; state -> `state` -> rules; a call -> `report`:
 //! which groups are due (`turns`), where they land (`place`), what they print (`print`). `feeder` makes calls of bytes cut
-//! anywhere. `explain` finds totals again from the rows.
+//! anywhere. `two` prints two reports into one output. `explain` finds totals again from the rows.
 //!
 //! Each module uses only those before it in this order (`tests/modules.rs`): layout, tables, picture, starts, description,
-//! record, state, sums, turns, place, print, report, explain, feeder, builder, source, cases.
+//! record, state, sums, turns, place, print, report, explain, feeder, two, builder, source, cases.
 
 pub mod builder;
 pub mod cases;
@@ -25,3 +25,4 @@ pub mod state;
 pub mod sums;
 pub mod tables;
 pub mod turns;
+pub mod two;

@@ -9,10 +9,11 @@ use second::explain::{self, Explainer, Explanation};
 use second::feeder::{self, Feeder, LONGEST_CHUNK};
 use second::report::{generate, initiate, terminate, Answer, Call};
 use second::state::State;
+use second::two::{self, TwoAgents, CODE_BYTES};
 use second::{cases, description, source};
 
 const USAGE: &str = "\
-second: document 01, and R-1, R-2, R-4, R-5 and R-6 of document 02, a second time, on its own
+second: document 01, and R-1, R-2 and R-4 to R-7 of document 02, a second time, on its own
 
 usage: second COMMAND ...
 
@@ -21,6 +22,9 @@ usage: second COMMAND ...
   second feed DESCRIPTION [-n N] [-o OUT]     prints the sheet of standard input, fed in pieces
   second explain DESCRIPTION RECORDS PAGE LINE
                                               says which rows make up the sums of a printed line
+  second two DESCRIPTION CODE1 RECORDS1 CODE2 RECORDS2 [--order LIST] [-o OUT]
+                                              prints the sheets of two agents into one file
+  second apart WIDTH FILE CODE [-o OUT]       takes the sheet of one code out of such a file
   second build SOURCE OUT                     makes a description from its text source
   second cases ...                            random cases
 
@@ -61,6 +65,24 @@ description and the records. Only for descriptions in which no counter that feed
 its own group's.
 ";
 
+const TWO_USAGE: &str = "\
+usage: second two DESCRIPTION CODE1 RECORDS1 CODE2 RECORDS2 [--order LIST] [-o OUT]
+
+Two agents' sheets of one description in one file (R-7), each line with its agent's code of two characters in front.
+INITIATE of both; GENERATE of every row as detail 0, the rows of both in turn, agent 1 first, and when one has no more the
+other's alone; TERMINATE of agent 1, then of agent 2. LIST is a file that says whose row is next: its characters 1 and 2,
+blanks and line ends left out. Rows that it leaves follow in turn. A list that names an agent without a row left fails
+before any row is printed. A refusal ends the run; what was printed before it stands.
+";
+
+const APART_USAGE: &str = "\
+usage: second apart WIDTH FILE CODE [-o OUT]
+
+The lines of a file of two agents that carry a code, in order, with the code taken off: an ordinary sheet, as `second
+print` gives it. WIDTH is the description's W, 1 to 132, so that a line of the file has WIDTH + 12 bytes. What stands
+behind the last whole line is left out.
+";
+
 const BUILD_USAGE: &str = "\
 usage: second build SOURCE OUT
 
@@ -88,6 +110,8 @@ fn main() {
         Some("print") => print(args_of_command),
         Some("feed") => feed(args_of_command),
         Some("explain") => explain(args_of_command),
+        Some("two") => two(args_of_command),
+        Some("apart") => apart(args_of_command),
         Some("build") => build(args_of_command),
         _ => Err(Failure::Usage(USAGE)),
     };
@@ -486,4 +510,166 @@ fn told_sum(explanation: &Explanation) -> String {
         text += &format!("  row {row}, field {field}: amount {amount}, times {times}\n");
     }
     text
+}
+
+fn two(args: &[String]) -> Result<(), Failure> {
+    if wants_help(args) {
+        return show(TWO_USAGE);
+    }
+    let [description, code_1, records_1, code_2, records_2, options @ ..] = args else {
+        return Err(Failure::Usage(TWO_USAGE));
+    };
+    let (mut list, mut out) = (None, None);
+    for option in options.chunks(2) {
+        match option {
+            [name, value] if name == "--order" => list = Some(value),
+            [name, value] if name == "-o" => out = Some(value.as_str()),
+            _ => return Err(Failure::Usage(TWO_USAGE)),
+        }
+    }
+    let code = |word: &str| code(word).ok_or(Failure::Usage(TWO_USAGE));
+    let codes = [code(code_1)?, code(code_2)?];
+    let description = read(description)?;
+    let files = [Whole::read(records_1)?, Whole::read(records_2)?];
+    let list = list.map(|name| Whole::read(name)).transpose()?;
+    with_output(out, |output| {
+        let out = vec![0; 1 << 16];
+        let common = Common { description: &description, two: TwoAgents::fresh(codes), out, output };
+        common.print(&files, list.as_ref())
+    })
+}
+
+/// A code given as a word; `None` for a word of any other length.
+fn code(word: &str) -> Option<[u8; CODE_BYTES]> {
+    word.as_bytes().try_into().ok()
+}
+
+/// A file read whole.
+struct Whole<'a> {
+    name: &'a str,
+    bytes: Vec<u8>,
+}
+
+impl Whole<'_> {
+    fn read(name: &str) -> Result<Whole<'_>, Failure> {
+        Ok(Whole { name, bytes: read(name)? })
+    }
+
+    fn failed(&self, what: &str) -> Failure {
+        Failure::Line(format!("second: {}: {what}", self.name))
+    }
+}
+
+/// Two agents with their common output.
+struct Common<'a, 'b> {
+    description: &'a [u8],
+    two: TwoAgents,
+    /// The common output: what is printed, then room.
+    out: Vec<u8>,
+    output: &'a mut Output<'b>,
+}
+
+impl Common<'_, '_> {
+    /// INITIATE of both, GENERATE of every row as detail 0, TERMINATE of both.
+    fn print(mut self, files: &[Whole; 2], list: Option<&Whole>) -> Result<(), Failure> {
+        let description = self.description;
+        for agent in [0, 1] {
+            let name = format!("INITIATE of agent {}", agent + 1);
+            self.call(&name, |two, _| two::initiate(description, two, agent))?;
+        }
+        if let Some(empty) = files.iter().find(|file| file.bytes.is_empty()) {
+            return Err(empty.failed("the file is empty"));
+        }
+        let length = usize::from(record_length(description));
+        let rows = files.each_ref().map(|file| file.bytes.chunks(length).collect::<Vec<_>>());
+        let mut taken = [0, 0];
+        for agent in order(list, rows.each_ref().map(Vec::len))? {
+            let row = rows[agent][taken[agent]];
+            taken[agent] += 1;
+            let name = format!("GENERATE of row {} of agent {}", taken[agent], agent + 1);
+            self.call(&name, |two, out| two::generate(description, two, agent, 0, row, out))?;
+        }
+        for agent in [0, 1] {
+            let name = format!("TERMINATE after row {} of agent {}", taken[agent], agent + 1);
+            self.call(&name, |two, out| two::terminate(description, two, agent, out))?;
+        }
+        Ok(())
+    }
+
+    /// Makes a call, again with more output as long as it is refused for want of it, and hands on what it prints.
+    fn call(
+        &mut self,
+        name: &str,
+        call: impl Fn(&TwoAgents, &mut [u8]) -> two::Answer,
+    ) -> Result<(), Failure> {
+        let mut answer = call(&self.two, &mut self.out);
+        while answer.number == 9 {
+            self.out.resize(2 * self.out.len(), 0);
+            answer = call(&self.two, &mut self.out);
+        }
+        accepted(answer.number, answer.extra, name)?;
+        self.output.write(&self.out[self.two.start as usize..][..answer.count])?;
+        self.two = answer.next;
+        Ok(())
+    }
+}
+
+/// Whose row is next, for all rows of both agents, 0 and 1: as the list has it, then in turn, the first agent first.
+fn order(list: Option<&Whole>, rows: [usize; 2]) -> Result<Vec<usize>, Failure> {
+    let mut left = rows;
+    let mut order = match list {
+        Some(list) => named(list, &mut left)?,
+        None => Vec::new(),
+    };
+    while left != [0, 0] {
+        for agent in [0, 1] {
+            if left[agent] > 0 {
+                left[agent] -= 1;
+                order.push(agent);
+            }
+        }
+    }
+    Ok(order)
+}
+
+/// The agents that a list names, each taken off the rows left.
+fn named(list: &Whole, left: &mut [usize; 2]) -> Result<Vec<usize>, Failure> {
+    let mut agents = Vec::new();
+    for (character, place) in list.bytes.iter().zip(1u64..) {
+        let agent = match character {
+            b'1' => 0,
+            b'2' => 1,
+            b' ' | b'\n' | b'\r' => continue,
+            _ => return Err(list.failed(&format!("character {place} is neither 1 nor 2"))),
+        };
+        if left[agent] == 0 {
+            let what = format!("character {place} names agent {}, who has no row left", agent + 1);
+            return Err(list.failed(&what));
+        }
+        left[agent] -= 1;
+        agents.push(agent);
+    }
+    Ok(agents)
+}
+
+fn apart(args: &[String]) -> Result<(), Failure> {
+    if wants_help(args) {
+        return show(APART_USAGE);
+    }
+    let words: Vec<&str> = args.iter().map(String::as_str).collect();
+    let (width, file, word, out) = match words[..] {
+        [width, file, word] => (width, file, word, None),
+        [width, file, word, "-o", out] | ["-o", out, width, file, word] => (width, file, word, Some(out)),
+        _ => return Err(Failure::Usage(APART_USAGE)),
+    };
+    let (Some(width), Some(code)) = (line_width(width), code(word)) else {
+        return Err(Failure::Usage(APART_USAGE));
+    };
+    let sheet = two::take_apart(&read(file)?, width, code);
+    with_output(out, |output| output.write(&sheet))
+}
+
+/// D2: "W 1 to 132".
+fn line_width(word: &str) -> Option<usize> {
+    word.parse().ok().filter(|width| (1..=132).contains(width))
 }

@@ -73,6 +73,8 @@ fn help_is_given() {
         &["print", "--help"],
         &["feed", "--help"],
         &["explain", "--help"],
+        &["two", "--help"],
+        &["apart", "-h"],
         &["build", "--help"],
     ] {
         let (code, out, error) = run(&path, args);
@@ -104,6 +106,27 @@ fn bad_usage_is_one_line_and_code_2() {
         &["feed", "d", "-n", "4097"],
         &["feed", "d", "-n", "one"],
         &["feed", "d", "-n", "-1"],
+        &["two"],
+        &["two", "d", "A1", "r", "B2"],
+        &["two", "d", "A1", "r", "B2", "r", "x"],
+        &["two", "d", "A1", "r", "B2", "r", "-o"],
+        &["two", "d", "A1", "r", "B2", "r", "--order"],
+        &["two", "d", "A1", "r", "B2", "r", "--order", "r", "-o"],
+        &["two", "d", "A1", "r", "B2", "r", "x", "y"],
+        &["two", "-o", "x", "d", "A1", "r", "B2", "r"],
+        &["two", "d", "A", "r", "B2", "r", "-o", "x"],
+        &["two", "d", "A1", "r", "B22", "r", "-o", "x"],
+        &["two", "d", "A1", "r", "", "r", "-o", "x"],
+        &["apart"],
+        &["apart", "12", "r"],
+        &["apart", "12", "r", "A1", "x"],
+        &["apart", "12", "r", "A1", "-o"],
+        &["apart", "0", "r", "A1", "-o", "x"],
+        &["apart", "133", "r", "A1", "-o", "x"],
+        &["apart", "-1", "r", "A1", "-o", "x"],
+        &["apart", "W", "r", "A1", "-o", "x"],
+        &["apart", "12", "r", "A", "-o", "x"],
+        &["apart", "12", "r", "A11", "-o", "x"],
         &["build"],
         &["build", "d"],
         &["build", "d", "x", "y"],
@@ -239,6 +262,10 @@ fn a_call_with_more_lines_than_the_first_output_prints() {
     for n in ["1", "16"] {
         assert!(run_with(&path, &["feed", "d", "-n", n], rows) == (0, out.clone(), String::new()));
     }
+    assert_eq!(run(&path, &["two", "d", "A1", "r", "B2", "r", "-o", "file"]), (0, Vec::new(), String::new()));
+    for code in ["A1", "B2"] {
+        assert!(run(&path, &["apart", "132", "file", code]) == (0, out.clone(), String::new()));
+    }
 }
 
 #[test]
@@ -295,6 +322,163 @@ fn a_blank_for_a_plus_gives_the_same_sheet() {
     for n in ["1", "2", "3", "4096"] {
         assert_eq!(run_with(&path, &["feed", "d", "-n", n], rows), sheet);
     }
+}
+
+// ---- two agents, one file (R-7)
+
+/// The whole run's rows for agent 1; three others, in the file `s`, for agent 2: their sheets in turn.
+const IN_TURN: &str = "\
+A1000001001PAGE..1.....
+A1000001003AA......5...
+B2000001001PAGE..1.....
+B2000001003CC....100...
+A1000001004........7...
+B2000001004.....-150...
+A1000001005SUM....12...
+A1000001006BB.....-2...
+B2000001005SUM...-50...
+B2000001006DD....999...
+A1000002001PAGE..2.....
+A1000002003BB......9...
+A1000002004SUM.....7...
+B2000001007SUM...999...
+";
+
+const OTHER_SHEET: &str = "\
+000001001PAGE..1.....
+000001003CC....100...
+000001004.....-150...
+000001005SUM...-50...
+000001006DD....999...
+000001007SUM...999...
+";
+
+/// `whole_run_directory` with the file `s`.
+fn two_agents_directory(test: &str) -> PathBuf {
+    let path = whole_run_directory(test);
+    std::fs::write(path.join("s"), b"CC+100CC-150DD+999").unwrap();
+    path
+}
+
+#[test]
+fn two_prints_the_rows_of_both_in_turn() {
+    let path = two_agents_directory("two");
+    let file = sheet_bytes(IN_TURN);
+    assert_eq!(run(&path, &["two", "d", "A1", "r", "B2", "s"]), (0, file.clone(), String::new()));
+    assert_eq!(run(&path, &["two", "d", "A1", "r", "B2", "s", "-o", "out"]), (0, Vec::new(), String::new()));
+    assert_eq!(std::fs::read(path.join("out")).unwrap(), file);
+    for (code, sheet) in [("A1", WHOLE_RUN_SHEET), ("B2", OTHER_SHEET), ("A2", "")] {
+        let sheet = sheet_bytes(sheet);
+        assert_eq!(run(&path, &["apart", "12", "out", code]), (0, sheet.clone(), String::new()));
+        for args in [["apart", "12", "out", code, "-o", "sheet"], ["apart", "-o", "sheet", "12", "out", code]]
+        {
+            assert_eq!(run(&path, &args), (0, Vec::new(), String::new()));
+            assert_eq!(std::fs::read(path.join("sheet")).unwrap(), sheet);
+        }
+    }
+    // A code may look like an option.
+    let (code, out, _) = run(&path, &["two", "d", "-o", "r", "--", "s"]);
+    assert_eq!((code, String::from_utf8(out)), (0, String::from_utf8(with_codes(&file, *b"-o", *b"--"))));
+}
+
+/// The file with other codes.
+fn with_codes(file: &[u8], first: [u8; 2], second: [u8; 2]) -> Vec<u8> {
+    let code = |line: &[u8]| if line.starts_with(b"A1") { first } else { second };
+    file.chunks(24).flat_map(|line| [&code(line), &line[2..]].concat()).collect()
+}
+
+#[test]
+fn two_prints_in_the_order_of_a_list() {
+    let path = two_agents_directory("order");
+    let file = sheet_bytes(IN_TURN);
+    let lines: Vec<&[u8]> = file.chunks(24).collect();
+    let ordered = |list: &str| {
+        std::fs::write(path.join("list"), list).unwrap();
+        run(&path, &["two", "d", "A1", "r", "B2", "s", "--order", "list"])
+    };
+    // Two lines come of the first row of each, one of the second, two of the others; TERMINATE prints one.
+    let [a, b, c, d, end] = [&lines[0..2], &lines[4..5], &lines[6..8], &lines[10..12], &lines[12..13]];
+    let [e, f, g, other_end] = [&lines[2..4], &lines[5..6], &lines[8..10], &lines[13..14]];
+    for (list, parts) in [
+        ("", [a, e, b, f, c, g, d]),
+        ("12 12 12\n1\n", [a, e, b, f, c, g, d]),
+        ("1111222", [a, b, c, d, e, f, g]),
+        ("222\r\n1111", [e, f, g, a, b, c, d]),
+        (" 2 1 1 2 \n\n 1 2 1 ", [e, a, b, f, c, g, d]),
+        // What the list leaves follows in turn, agent 1 first.
+        ("2", [e, a, f, b, g, c, d]),
+        ("1", [a, b, e, c, f, d, g]),
+        ("11", [a, b, c, e, d, f, g]),
+        ("222", [e, f, g, a, b, c, d]),
+    ] {
+        let sheet = [&parts[..], &[end, other_end]].concat().concat().concat();
+        assert_eq!(ordered(list), (0, sheet, String::new()), "{list:?}");
+    }
+}
+
+#[test]
+fn a_list_that_cannot_be_followed_fails_before_the_rows() {
+    let path = two_agents_directory("bad_order");
+    for (list, words) in [
+        ("12x", "second: list: character 3 is neither 1 nor 2"),
+        ("3", "second: list: character 1 is neither 1 nor 2"),
+        ("1\t2", "second: list: character 2 is neither 1 nor 2"),
+        ("1 2\n\n0", "second: list: character 6 is neither 1 nor 2"),
+        ("2 2 2\n2x", "second: list: character 7 names agent 2, who has no row left"),
+        ("12121211", "second: list: character 8 names agent 1, who has no row left"),
+    ] {
+        std::fs::write(path.join("list"), list).unwrap();
+        fails(&path, &["two", "d", "A1", "r", "B2", "s", "--order", "list"], 1, words);
+    }
+    fails(&path, &["two", "d", "A1", "r", "B2", "s", "--order", "none"], 1, "second: none: ");
+}
+
+#[test]
+fn two_without_its_files_says_so() {
+    let path = two_agents_directory("two_files");
+    fails(&path, &["two", "none", "A1", "r", "B2", "s"], 1, "second: none: ");
+    fails(&path, &["two", "d", "A1", "none", "B2", "s"], 1, "second: none: ");
+    fails(&path, &["two", "d", "A1", "r", "B2", "."], 1, "second: .: ");
+    let refused = "INITIATE of agent 1 refused: refusal 1, extra number 1";
+    fails(&path, &["two", "empty", "A1", "empty", "A1", "s"], 1, refused);
+    fails(&path, &["two", "d", "A1", "empty", "B2", "s"], 1, "second: empty: the file is empty");
+    fails(&path, &["two", "d", "A1", "r", "B2", "empty"], 1, "second: empty: the file is empty");
+    fails(&path, &["two", "d", "A1", "r", "B2", "s", "-o", "no/out"], 1, "second: no/out: ");
+    fails(&path, &["apart", "12", "none", "A1"], 1, "second: none: ");
+    fails(&path, &["apart", "12", "r", "A1", "-o", "no/out"], 1, "second: no/out: ");
+    // A file without lines has an empty sheet.
+    assert_eq!(run(&path, &["apart", "12", "empty", "A1"]), (0, Vec::new(), String::new()));
+    assert_eq!(run(&path, &["apart", "1", "r", "AA"]), (0, b"+005AA+007B".to_vec(), String::new()));
+}
+
+#[test]
+fn two_tells_codes_that_are_refused() {
+    let path = two_agents_directory("codes");
+    let refused = "INITIATE of agent 1 refused: refusal 11, extra number 0";
+    // The last is two bytes of one character.
+    for (first, second) in [("A1", "A1"), ("A\u{1f}", "B2"), ("A1", "\u{7f}2"), ("é", "B2")] {
+        fails(&path, &["two", "d", first, "r", second, "s"], 1, refused);
+    }
+    assert_eq!(run(&path, &["two", "d", " ~", "r", "~ ", "s"]).0, 0);
+}
+
+#[test]
+fn what_was_printed_before_a_refused_row_of_two_stands() {
+    let path = two_agents_directory("two_rows");
+    let file = sheet_bytes(IN_TURN);
+    // Both print two lines of their first rows and one of their second.
+    std::fs::write(path.join("wrong"), b"CC+100CC 15xDD+999").unwrap();
+    let words = "GENERATE of row 2 of agent 2 refused: refusal 6, extra number 1";
+    fails_after(&path, &["two", "d", "A1", "r", "B2", "wrong"], 1, &file[..120], words);
+    std::fs::write(path.join("short"), b"AA+005AA+0").unwrap();
+    let words = "GENERATE of row 2 of agent 1 refused: refusal 5, extra number 0";
+    fails_after(&path, &["two", "d", "A1", "short", "B2", "s"], 1, &file[..96], words);
+    // The sums leave their range in TERMINATE, of agent 2 alone.
+    std::fs::write(path.join("large"), large_sums().bytes()).unwrap();
+    std::fs::write(path.join("few"), b"+99999999999999999".repeat(2)).unwrap();
+    std::fs::write(path.join("many"), b"+99999999999999999".repeat(6)).unwrap();
+    let words = "TERMINATE after row 6 of agent 2 refused: refusal 7, extra number 0";
+    fails(&path, &["two", "large", "A1", "few", "B2", "many"], 1, words);
 }
 
 #[test]

@@ -3,7 +3,7 @@
 use std::fs;
 use std::path::Path;
 
-const ORDER: [&str; 17] = [
+const ORDER: [&str; 18] = [
     "layout",
     "tables",
     "picture",
@@ -18,6 +18,7 @@ const ORDER: [&str; 17] = [
     "report",
     "explain",
     "feeder",
+    "two",
     "builder",
     "source",
     "cases",

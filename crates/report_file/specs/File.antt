@@ -3,7 +3,9 @@ use Prim.Native.Nat.{ℕ}
 use mathlib.Core.Path.{_≡_}
 use mathlib.Core.Bool.{Bool}
 use mathlib.Core.List.{List}
+use lib.ListN.{length}
 use Rattle.coded.specs.Coded as coded
+use Rattle.coded.specs.Coded.{codeSize}
 use Rattle.state.specs.declared.State.{State}
 use Rattle.state.specs.State.{idle, freshAt}
 use Rattle.report_file.specs.declared.Agent.{Agent}
@@ -25,6 +27,11 @@ stateOf f Second = f .second
 abbrev pub codeOf : Codes → Agent → List ℕ
 codeOf c First = c .first
 codeOf c Second = c .second
+
+-- "a code of two characters", as the types say
+pub record CodesLong (c : Codes) : Type 0 where
+  pub firstLong : length (c .first) ≡ codeSize
+  pub secondLong : length (c .second) ≡ codeSize
 
 -- "equal codes or a code byte outside 32 to 126" is refused
 abbrev pub codesOk : Codes → Bool

@@ -3,3 +3,6 @@ pub mod Lines
 pub mod Own
 pub mod Step
 pub mod Lists
+pub mod Isolation
+pub mod Refusals
+pub mod Theorem

@@ -1,35 +1,50 @@
 -- What is claimed of two agents' sheets in one output.
 use Prim.Native.Nat.{ℕ, _≤_}
 use mathlib.Core.Path.{_≡_}
+use mathlib.Core.Bool.{false}
 use mathlib.Core.Logic.{_⊎_}
 use mathlib.Core.List.{List, map}
 use lib.ListN.{length, take, drop}
 use Rattle.unpacked.specs.Head.{headOf}
 use Rattle.printed.specs.Printed.{recordSize}
-use Rattle.coded.specs.Coded.{codeSize, codePrefix, takenApart}
+use Rattle.coded.specs.Coded.{codePrefix, takenApart}
 use Rattle.pagination.specs.All.{All}
 use Rattle.state.specs.State.{freshAt}
 use Rattle.report_file.specs.declared.Agent.{Agent}
 use Rattle.report_file.specs.declared.Codes.{Codes}
 use Rattle.report_file.specs.declared.ReportFile.{ReportFile}
-use Rattle.report_file.specs.Verdict.{number}
-use Rattle.report_file.specs.File.{freshFile, stateOf, codeOf}
+use Rattle.report_file.specs.declared.FileVerdict.the-variants.{BadCodes}
+use Rattle.report_file.specs.Verdict.{number, accepted}
+use Rattle.report_file.specs.File.{freshFile, stateOf, codeOf, codesOk, FiledResult, refuse}
+use Rattle.book.specs.Book.{Call}
 use Rattle.book.specs.Demand.{printed, Demand3}
-use Rattle.two_sheets.specs.Runs.{AgentCall, Done, run, Left, left, askedBy, doneFor, got, noRoom, own, seen, seenAlone}
+use Rattle.two_sheets.specs.Runs.{AgentCall, answer, Done, run, Left, left, askedBy, doneFor, got, noRoom, own, seen, seenAlone}
 
--- "a code of two characters", as the types say
-pub record Typed (codes : Codes) : Type 0 where
-  pub first : length (codes .first) ≡ codeSize
-  pub second : length (codes .second) ≡ codeSize
+-- "A refusal gives back both states and the place, count 0, output untouched", by a number of the table
+pub record Whole (f : ReportFile) (out : List ℕ) (r : FiledResult) : Type 0 where
+  pub listed : (number (r .filed .verdict) ≤ 9) ⊎ (number (r .filed .verdict) ≡ 11)
+  pub whole : r ≡ refuse f out (r .filed .verdict)
+
+abbrev pub Refuses : ReportFile → List ℕ → FiledResult → Type 0
+Refuses f out r = accepted (r .filed .verdict) ≡ false → Whole f out r
 
 module _ (d : List ℕ) where
   -- "W + 12 bytes in all", whichever the code
   abbrev pub size : List ℕ → ℕ
   size code = recordSize (codePrefix code) (headOf d .width)
 
-  -- "a call is refused only for reasons 3 to 9"; 11 joins them where the codes are bad (`BadCodes` below)
+  -- "a call is refused only for reasons 3 to 9"; 11 joins them where the codes are bad (`Refused11`)
   abbrev pub Allowed : Done d → Type 0
   Allowed x = (number (x .result .filed .verdict) ≡ 0) ⊎ (3 ≤ number (x .result .filed .verdict)) × (number (x .result .filed .verdict) ≤ 9)
+
+  -- ---- one call
+  -- demand 1 for every description, report file, agent, call and output; so a repeated call counts once
+  abbrev pub Demand1 : Type 0
+  Demand1 = (f : ReportFile) (agent : Agent) (c : Call) (out : List ℕ) → Refuses f out (answer d f agent c out)
+
+  -- "11, equal codes or a code byte outside 32 to 126": whatever is asked, and tried before the state is looked at
+  abbrev pub Refused11 : Type 0
+  Refused11 = (f : ReportFile) → codesOk (f .codes) ≡ false → (agent : Agent) (c : Call) (out : List ℕ) → answer d f agent c out ≡ refuse f out BadCodes
 
   -- ---- two agents' sheets
   module _ (codes : Codes) (out : List ℕ) (cs : List AgentCall) where
