@@ -1,5 +1,6 @@
 #!/usr/bin/env python3
 """make_rows.py OUT : the rows of day_sheet, always the same, sorted by agent, customer, modem, time.
+make_rows.py OUT second : those of a second record file, of another office.
 
 67-byte records, no newlines: agent 16, customer 20, modem 10, time 5 characters; amount sign and 8 digits,
 commission sign and 6 digits, both in hundredths.
@@ -14,6 +15,10 @@ AGENTS = [  # name, commission in thousandths, customers
     ("EIDER SUPPLY", 35, ["ICE HOUSE", "NET LOFT", "SLIPWAY"]),
     ("FULMAR STORES", 30, ["BAKERY", "POST OFFICE", "STATION BUFFET", "TOWN LIBRARY"]),
 ]
+OFFICE = [
+    ("GANNET PHONES", 30, ["CLIFF HOTEL", "PIER HEAD"]),
+    ("HERON POINT", 25, ["BOATYARD", "LOCK COTTAGE", "REED MILL"]),
+]
 AMOUNTS = [500, 500, 1000, 1000, 1000, 1500, 2000, 2000, 2500, 3000, 5000, 10000]
 
 seed = 20240602
@@ -26,9 +31,9 @@ def draw(n):
     return (seed >> 16) % n
 
 
-def rows():
+def rows(agents):
     modem = 10400
-    for agent, rate, customers in AGENTS:
+    for agent, rate, customers in agents:
         for customer in customers:
             for _ in range(1 + draw(4)):
                 modem += 1 + draw(9)
@@ -46,6 +51,6 @@ def rows():
 
 
 with open(sys.argv[1], "w", newline="") as out:
-    for row in rows():
+    for row in rows(OFFICE if sys.argv[2:] == ["second"] else AGENTS):
         assert len(row) == 67
         out.write(row)

@@ -25,6 +25,15 @@ fn usage(p: Program, fd: i32) {
                 b"usage: explain [--short] [--progress] DESCRIPTION RECORDS PAGE LINE\n",
             );
         }
+        Program::Sheets => {
+            io::write_all(
+                fd,
+                b"usage: sheets [--order LIST] [--progress] DESCRIPTION CODE1 RECORDS1 CODE2 RECORDS2\n",
+            );
+        }
+        Program::Apart => {
+            io::write_all(fd, b"usage: apart FILE CODE1 SHEET1 CODE2 SHEET2\n");
+        }
     }
 }
 
@@ -46,11 +55,27 @@ fn explain_help(fd: i32) {
     );
 }
 
+fn sheets_help(fd: i32) {
+    io::write_all(
+        fd,
+        b"\nPrints the sheets of two agents into one output, each line with its agent's code of two characters in front: INITIATE of\nboth, GENERATE every record as detail 0, in turn, the first agent's first, TERMINATE of the first and of the second. When\none file is used up the other goes on alone. A refused call is told on standard error and ends the output; what was\naccepted before stands. Rows of each agent count from 1, fields and bytes from 0.\n\n  --order LIST  a file whose characters 1 and 2 say whose row is next, blanks and line ends aside; the rows left when it\n                ends follow in turn\n  --progress    tell on standard error how many rows are done\n  --help        print this\n",
+    );
+}
+
+fn apart_help(fd: i32) {
+    io::write_all(
+        fd,
+        b"\nTakes a file with the sheets of two agents apart: the lines that carry CODE1 go to the file SHEET1, those with CODE2 to\nSHEET2, in order, with the code taken off. Both are made anew. A line that carries neither code or does not end where\nthe first one does is told on standard error and ends the work; what stands before it is written. Records count from 1,\nbytes from 0.\n\n  --help  print this\n",
+    );
+}
+
 fn help(p: Program, fd: i32) {
     usage(p, fd);
     match p {
         Program::Sheet => sheet_help(fd),
         Program::Explain => explain_help(fd),
+        Program::Sheets => sheets_help(fd),
+        Program::Apart => apart_help(fd),
     }
 }
 
@@ -118,6 +143,22 @@ pub fn is_usable(p: Program, first: usize, n: usize) -> bool {
         tell_usage(p);
     }
     is_right
+}
+
+// A code, and whether it has just two characters.
+pub struct Code {
+    pub bytes: [u8; 2],
+    pub is_right: bool,
+}
+
+// Argument `i` as a code.
+pub fn code_of(i: usize) -> Code {
+    let mut bytes = [0u8; 2];
+    let n = os::arg(i, &mut bytes);
+    Code {
+        bytes,
+        is_right: n == 2,
+    }
 }
 
 // ---- files

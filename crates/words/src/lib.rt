@@ -7,6 +7,8 @@ use verdict::Verdict;
 pub enum Program {
     Sheet,
     Explain,
+    Sheets,
+    Apart,
 }
 
 pub fn say(text: &[u8]) {
@@ -21,6 +23,8 @@ pub fn name(p: Program) {
     match p {
         Program::Sheet => say(b"sheet: "),
         Program::Explain => say(b"explain: "),
+        Program::Sheets => say(b"sheets: "),
+        Program::Apart => say(b"apart: "),
     }
 }
 
@@ -138,6 +142,15 @@ pub fn sentence(d: &[u8], length: usize, v: Verdict) {
         Verdict::Sum => say(b"an addition would leave the sum range"),
         Verdict::Pages => say(b"a page change would pass page 999999"),
         Verdict::Room => say(b"the output has no room for the lines"),
+    }
+}
+
+// Two codes that are refused: why.
+pub fn bad_codes(one: [u8; 2], two: [u8; 2]) {
+    if (one[0] == two[0]) & (one[1] == two[1]) {
+        say(b"the codes are equal");
+    } else {
+        say(b"a code byte is outside 32 to 126");
     }
 }
 
