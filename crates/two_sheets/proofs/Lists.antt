@@ -120,12 +120,12 @@ module _ (d : List ℕ) (e : checked d ≡ Accepted) (codes : Codes) (typed : Co
   abbrev code : Agent → List ℕ
   code a = codeOf codes a
 
-  record Inv (f : ReportFile) (out : List ℕ) : Type 0 where
-    same : f .codes ≡ codes
-    inside : f .place ≤ length out
-    rows : ℕ
-    whole : f .place ≡ rows * size d []
-    stands : (a : Agent) → Stands h t chars (stateOf f a)
+  pub record Inv (f : ReportFile) (out : List ℕ) : Type 0 where
+    pub same : f .codes ≡ codes
+    pub inside : f .place ≤ length out
+    pub rows : ℕ
+    pub whole : f .place ≡ rows * size d []
+    pub stands : (a : Agent) → Stands h t chars (stateOf f a)
 
   record Holds (f : ReportFile) (out : List ℕ) (cs : List AgentCall) : Type 0 where
     refusals : All (Allowed d) (run d f out cs)
@@ -179,7 +179,7 @@ module _ (d : List ℕ) (e : checked d ≡ Accepted) (codes : Codes) (typed : Co
     by-call (generate detail row) = asked (Generate detail) row
     by-call terminate = asked Terminate []
 
-    step : Stepped d A (code A) (code (otherOf A)) f out (x .result) z
+    pub step : Stepped d A (code A) (code (otherOf A)) f out (x .result) z
     step = by-call (c .call)
 
     stands-after : (k : Call) (o : List ℕ) → Stands h t chars (book.answer d (stateOf f A) k o .answer .state)
@@ -193,7 +193,7 @@ module _ (d : List ℕ) (e : checked d ≡ Accepted) (codes : Codes) (typed : Co
     fine-after terminate o = alone-fine d e (stateOf f A) (I .stands A) Terminate [] o
 
     -- what the call leaves of the report file
-    own-state : stateOf f' A ≡ z .answer .state
+    pub own-state : stateOf f' A ≡ z .answer .state
     own-state = rw (step .file) (moved-own f (z .answer .state) (f .place + length (step .lines)) A)
 
     other-state : stateOf f' (otherOf A) ≡ stateOf f (otherOf A)
@@ -202,7 +202,7 @@ module _ (d : List ℕ) (e : checked d ≡ Accepted) (codes : Codes) (typed : Co
     next-place : f' .place ≡ f .place + length (step .lines)
     next-place = rw (step .file) (moved-place f (z .answer .state) (f .place + length (step .lines)) A)
 
-    next-inv : Inv f' out'
+    pub next-inv : Inv f' out'
     next-inv = record {
       same = rw (step .file) (moved-codes f (z .answer .state) (f .place + length (step .lines)) A) ∙ I .same;
       inside = omega (arith, next-place, step .room, step .long);
@@ -307,7 +307,7 @@ module _ (d : List ℕ) (e : checked d ≡ Accepted) (codes : Codes) (typed : Co
   holds (c ∷ cs) f out I = holds-next f out I c cs (holds cs (f' f out I c) (out' f out I c) (next-inv f out I c))
 
   -- ---- from fresh states
-  fresh-inv : (out : List ℕ) → Inv (freshFile codes) out
+  pub fresh-inv : (out : List ℕ) → Inv (freshFile codes) out
   fresh-inv out = record {
     same = refl;
     inside = omega arith;
