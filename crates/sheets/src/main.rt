@@ -1,69 +1,56 @@
 // The thin program that prints two agents' sheets into one output: INITIATE of both, GENERATE every record as detail 0, TERMINATE of both.
-use calls::Asked;
+use call_order::Order;
+use call_order::Turn;
 use report_file::Agent;
 use report_file::Codes;
 use report_file::FileVerdict;
 use report_file::Filed;
 use report_file::ReportFile;
-use row_order::Next;
-use row_order::Order;
 use verdict::Verdict;
 use words::Program;
 
-// The report file, the rows in their order, whether to tell how far it is, whether there are more rows, and whether all is printed so far.
+// The report file, the calls in their order, whether to tell how far it is, and whether there is more to do.
 struct Sheets {
     file: ReportFile,
     order: Order,
     progress: bool,
     more: bool,
-    whole: bool,
 }
 
-// ---- what is told
-// The call of an agent that has a code, behind so many of its rows.
-fn say_call(codes: Codes, agent: Agent, asked: Asked, rows: u64) {
+// ---- the calls
+// The call in hand, of the agent that it is for.
+fn ask(d: &[u8], f: ReportFile, o: Order, rec: &[u8], out: &mut [u8]) -> Filed {
+    let agent = if o.is_second {
+        Agent::Second
+    } else {
+        Agent::First
+    };
+    let turn = o.turn;
+    match turn {
+        Turn::Initiate => f.initiate(agent, d),
+        Turn::Terminate => f.terminate(agent, d, out),
+        _ => f.generate(agent, d, 0, rec, out),
+    }
+}
+
+// A refusal of the call in hand, told with the agent's code.
+fn say_refusal(d: &[u8], o: Order, codes: Codes, length: usize, v: FileVerdict) {
+    let one = codes.first;
+    let two = codes.second;
     words::name(Program::Sheets);
     words::say(b"agent ");
-    match agent {
-        Agent::First => {
-            let code = codes.first;
-            words::say(&code);
-        }
-        Agent::Second => {
-            let code = codes.second;
-            words::say(&code);
-        }
+    if o.is_second {
+        words::say(&two);
+    } else {
+        words::say(&one);
     }
-    match asked {
-        Asked::Initiate => words::say(b", INITIATE: "),
-        Asked::Generate(_) => {
-            words::say(b", row ");
-            words::say_number(std::num::wrapping_add_u64(rows, 1));
-            words::say(b": ");
-        }
-        Asked::Terminate => words::say(b", TERMINATE: "),
-    }
-}
-
-fn say_refusal(d: &[u8], codes: Codes, length: usize, v: FileVerdict) {
+    call_order::say(o);
     match v {
         FileVerdict::BadCodes => {
-            let one = codes.first;
-            let two = codes.second;
             words::bad_codes(one, two);
             words::numbers(v.number(), v.extra());
         }
         FileVerdict::Call(own) => words::refusal(d, length, own),
-    }
-}
-
-// ---- the calls
-// A call for an agent.
-fn ask(d: &[u8], f: ReportFile, agent: Agent, asked: Asked, rec: &[u8], out: &mut [u8]) -> Filed {
-    match asked {
-        Asked::Initiate => f.initiate(agent, d),
-        Asked::Generate(detail) => f.generate(agent, d, detail, rec, out),
-        Asked::Terminate => f.terminate(agent, d, out),
     }
 }
 
@@ -96,120 +83,71 @@ fn emptied(f: ReportFile) -> ReportFile {
 }
 
 // Behind a call: with this report file, and whether there is more to do.
-fn after(s: Sheets, file: ReportFile, is_done: bool) -> Sheets {
+fn after(s: Sheets, file: ReportFile, more: bool) -> Sheets {
     let order = s.order;
     Sheets {
         file,
         order,
         progress: s.progress,
-        more: is_done,
-        whole: is_done,
+        more,
     }
 }
 
-// The answer of a call: a refusal is told behind what was accepted, and ends the output.
-fn settled(
-    d: &[u8],
-    s: Sheets,
-    agent: Agent,
-    asked: Asked,
-    length: usize,
-    a: Filed,
-    out: &[u8],
-) -> Sheets {
+// The answer of the call in hand: a refusal is told behind what was accepted, and ends the output.
+fn settled(d: &[u8], s: Sheets, length: usize, a: Filed, out: &[u8]) -> Sheets {
     let v = a.verdict;
     let file = a.file;
-    if v.number() == 0 {
-        return after(s, file, true);
-    }
-    if flush(file, out) {
+    let is_accepted = v.number() == 0;
+    if !is_accepted && flush(file, out) {
         let codes = file.codes;
         let order = s.order;
-        let rows = row_order::current(order);
-        say_call(codes, agent, asked, rows.taken);
-        say_refusal(d, codes, length, v);
+        say_refusal(d, order, codes, length, v);
     }
-    after(s, emptied(file), false)
+    after(s, file, is_accepted)
 }
 
-// A call for an agent. Where it has no room it is tried once more behind what waits, since its refusal touched nothing.
-fn call(d: &[u8], s: Sheets, agent: Agent, asked: Asked, rec: &[u8], out: &mut [u8]) -> Sheets {
+// The call in hand. Where it has no room it is tried once more behind what waits, since its refusal touched nothing.
+fn call(d: &[u8], s: Sheets, rec: &[u8], out: &mut [u8]) -> Sheets {
     let file = s.file;
-    let a = ask(d, file, agent, asked, rec, out);
+    let order = s.order;
+    let a = ask(d, file, order, rec, out);
     let v = a.verdict;
     if !is_room(v) | (file.place == 0) {
-        return settled(d, s, agent, asked, rec.len(), a, out);
+        return settled(d, s, rec.len(), a, out);
     }
-    let order = s.order;
-    console::progress(Program::Sheets, s.progress, row_order::rows(order));
-    let empty = emptied(file);
+    console::progress(Program::Sheets, s.progress, call_order::rows(order));
     if !flush(file, out) {
-        return after(s, empty, false);
+        return after(s, file, false);
     }
-    let again = ask(d, empty, agent, asked, rec, out);
-    settled(d, s, agent, asked, rec.len(), again, out)
+    let again = ask(d, emptied(file), order, rec, out);
+    settled(d, s, rec.len(), again, out)
 }
 
-// ---- the rows
-// One turn: whose row is next, and its lines.
+// One turn: the next call; behind the last one, what waits is written.
 fn turn(d: &[u8], s: Sheets, buffer: &mut [u8], out: &mut [u8]) -> Sheets {
     let file = s.file;
     let old = s.order;
-    let order = row_order::step(old, buffer);
-    let source = row_order::current(order);
-    let rec = row_order::in_hand(source, order.size, buffer);
-    let next = order.next;
-    let t = Sheets {
+    let order = call_order::step(old, buffer);
+    let next = Sheets {
         file,
         order,
         progress: s.progress,
         more: false,
-        whole: s.whole,
     };
-    match next {
-        Next::First => call(d, t, Agent::First, Asked::Generate(0), rec, out),
-        Next::Second => call(d, t, Agent::Second, Asked::Generate(0), rec, out),
-        Next::End => t,
-        Next::Stop => {
-            flush(file, out);
-            after(t, emptied(file), false)
-        }
-    }
-}
-
-fn print_rows(d: &[u8], s: Sheets, buffer: &mut [u8], out: &mut [u8]) -> Sheets {
-    let mut sheets = s;
-    let mut turns = u64::MAX;
-    while turns > 0 && sheets.more {
-        turns -= 1;
-        sheets = turn(d, sheets, buffer, out);
-    }
-    sheets
-}
-
-// ---- the reports
-// The same call for both agents.
-fn for_both(d: &[u8], s: Sheets, asked: Asked, out: &mut [u8]) -> Sheets {
-    let t = call(d, s, Agent::First, asked, b"", out);
-    if t.whole {
-        call(d, t, Agent::Second, asked, b"", out)
-    } else {
-        t
-    }
-}
-
-// TERMINATE of both, where all is printed so far.
-fn finish(d: &[u8], s: Sheets, out: &mut [u8]) {
-    if s.whole {
-        let order = s.order;
-        console::progress(Program::Sheets, s.progress, row_order::rows(order));
-        let t = for_both(d, s, Asked::Terminate, out);
-        let file = t.file;
+    if call_order::is_over(order) {
+        console::progress(Program::Sheets, s.progress, call_order::rows(order));
         flush(file, out);
+        return next;
     }
+    let source = call_order::current(order);
+    call(
+        d,
+        next,
+        call_order::in_hand(source, order.size, buffer),
+        out,
+    )
 }
 
-// INITIATE, the rows, TERMINATE, of both.
 fn print_sheets(
     d: &[u8],
     codes: Codes,
@@ -218,16 +156,17 @@ fn print_sheets(
     buffer: &mut [u8],
     out: &mut [u8],
 ) {
-    let start = Sheets {
+    let mut sheets = Sheets {
         file: ReportFile::fresh(codes),
         order,
         progress,
         more: true,
-        whole: true,
     };
-    let s = for_both(d, start, Asked::Initiate, out);
-    let t = print_rows(d, s, buffer, out);
-    finish(d, t, out);
+    let mut turns = u64::MAX;
+    while turns > 0 && sheets.more {
+        turns -= 1;
+        sheets = turn(d, sheets, buffer, out);
+    }
 }
 
 // ---- files and arguments
@@ -235,9 +174,9 @@ fn print_sheets(
 fn print_records(d: &[u8], first: usize, list: usize, codes: Codes, progress: bool) {
     let one = std::num::wrapping_add_usize(first, 2);
     let two = std::num::wrapping_add_usize(first, 4);
-    let order = row_order::begun(one, two, list, words::record_length(d));
-    if row_order::is_sound(order) {
-        let mut buffer = [0u8; row_order::ROOM];
+    let order = call_order::begun(one, two, list, words::record_length(d));
+    if call_order::is_sound(order) {
+        let mut buffer = [0u8; call_order::ROOM];
         let mut out = [0u8; console::CALL_ROOM];
         print_sheets(d, codes, order, progress, &mut buffer, &mut out);
     }

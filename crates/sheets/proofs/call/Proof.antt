@@ -5,9 +5,9 @@ use borrow.Author.Needs.{needs}
 use Rattle.sheets.proofs.call.Statement.{statement}
 use Rattle.sheets.proofs.call.Tie as tie
 
--- from the first call's refusal to where the output came back
+-- from where what waits is written to where the output came back from the first call
 abbrev back : tie.After-flush → tie.After-out
-back k = k .before .before .before .before .before .before .before .before .before .before
+back k = k .before .before .before .before .before .before .before .before
 
 pub call-spec : {M : Type 1} → statement M
 call-spec =
@@ -22,10 +22,10 @@ call-spec =
     (λ c κs. search needs)
     (λ c κs. search needs)
     (λ c κs. search needs)
-    (λ c κs. search needs)
-    (λ c. omega (arith, back (c .before .before) .out .given))
+    (λ c. search needs)
     (λ c. search needs)
     (λ c κs. search needs)
     (λ c κs. search needs)
-    (λ c. let k = c .before .before .before in omega (arith, k .out2 .given, back (k .before .before .before .before) .out .given))
+    (λ c κs. search needs)
+    (λ c. let k = c .before .before .before in omega (arith, k .out2 .given, back (k .before .before .before .before .before) .out .given))
     (λ c. search needs))

@@ -1,4 +1,4 @@
-// The rows of two record files in their order: each file is read in parts, and a list may say whose row is next.
+// The calls of two agents' sheets in their order: the record files are read in parts, and a list may say whose row is next.
 ghost use Prim.Native.Nat.{_≤_};
 ghost use lib.ListN.{length};
 use words::Program;
@@ -23,24 +23,27 @@ pub struct Source {
     pub is_broken: bool,
 }
 
-// Whose row is next; or no more rows, or no way to go on, which was told.
-pub enum Next {
-    First,
-    Second,
+// Which call is next, or that there is none: all is done, or there is no way to go on, which was told.
+pub enum Turn {
+    Start,
+    Initiate,
+    Row,
+    Terminate,
     End,
     Stop,
 }
 
-// The record files and the list, the length of a record, how much of a record file is read at a time, whether the second agent is next where the list
-// does not say, and whose row is in hand.
+// The record files and the list, the length of a record, how much of a record file is read at a time, the call in hand and whether it is the
+// second agent's, and whether the second agent's row is next where the list does not say.
 pub struct Order {
     pub first: Source,
     pub second: Source,
     pub list: Source,
     pub size: usize,
     pub part: usize,
+    pub turn: Turn,
     pub is_second: bool,
-    pub next: Next,
+    pub is_second_next: bool,
 }
 
 // ---- the files
@@ -80,8 +83,9 @@ pub fn begun(first: usize, second: usize, list: usize, size: usize) -> Order {
         list: opened(list, RECORDS_ROOM + RECORDS_ROOM),
         size,
         part: whole_part(size),
+        turn: Turn::Start,
         is_second: false,
-        next: Next::Stop,
+        is_second_next: false,
     }
 }
 
@@ -178,7 +182,7 @@ fn next_named(s: Source, buffer: &mut [u8]) -> Named {
 }
 
 // What is wrong at the last character taken from the list.
-fn object(list: Source, what: &[u8]) -> Next {
+fn object(list: Source, what: &[u8]) -> Turn {
     let mut path = io::buffer();
     let n = os::arg(list.arg, &mut path);
     words::name(Program::Sheets);
@@ -186,71 +190,62 @@ fn object(list: Source, what: &[u8]) -> Next {
     words::say(b": character ");
     words::say_number(list.taken);
     words::say(what);
-    Next::Stop
+    Turn::Stop
 }
 
 // ---- whose row is next
+// A call, and whether it is the second agent's.
+struct Choice {
+    turn: Turn,
+    is_second: bool,
+}
+
 // Whether a row is in hand, or the start of one.
 fn has_row(s: Source) -> bool {
     s.from < s.to
 }
 
 // In turn, as long as both have rows.
-fn in_turn(has_first: bool, has_second: bool, is_second: bool) -> Next {
-    if has_first & !(is_second & has_second) {
-        Next::First
-    } else if has_second {
-        Next::Second
+fn in_turn(has_first: bool, has_second: bool, is_second: bool) -> Choice {
+    let turn = if has_first | has_second {
+        Turn::Row
     } else {
-        Next::End
+        Turn::Terminate
+    };
+    Choice {
+        turn,
+        is_second: has_second & (is_second | !has_first),
     }
 }
 
 // Whom a character of the list names.
-fn by_list(list: Source, c: u8, has_first: bool, has_second: bool) -> Next {
-    match c {
-        b'1' => {
-            if has_first {
-                Next::First
-            } else {
-                object(list, b": the rows of agent 1 are used up\n")
-            }
-        }
-        b'2' => {
-            if has_second {
-                Next::Second
-            } else {
-                object(list, b": the rows of agent 2 are used up\n")
-            }
-        }
-        _ => object(list, b" is neither 1 nor 2\n"),
-    }
+fn by_list(list: Source, c: u8, has_first: bool, has_second: bool) -> Choice {
+    let is_second = c == b'2';
+    let turn = if (c == b'1') & has_first | is_second & has_second {
+        Turn::Row
+    } else if c == b'1' {
+        object(list, b": the rows of agent 1 are used up\n")
+    } else if is_second {
+        object(list, b": the rows of agent 2 are used up\n")
+    } else {
+        object(list, b" is neither 1 nor 2\n")
+    };
+    Choice { turn, is_second }
 }
 
 // By the list while it lasts, then in turn.
-fn choice(first: Source, second: Source, named: Named, is_second: bool) -> Next {
+fn chosen(first: Source, second: Source, named: Named, is_second: bool) -> Choice {
     let list = named.list;
     if first.is_broken | second.is_broken | list.is_broken {
-        return Next::Stop;
+        return Choice {
+            turn: Turn::Stop,
+            is_second: false,
+        };
     }
     if list.is_ended {
         return in_turn(has_row(first), has_row(second), is_second);
     }
     by_list(list, named.character, has_row(first), has_row(second))
-}
-
-fn is_first(next: Next) -> bool {
-    match next {
-        Next::First => true,
-        _ => false,
-    }
-}
-
-fn is_second(next: Next) -> bool {
-    match next {
-        Next::Second => true,
-        _ => false,
-    }
 }
 
 // A record file behind its row in hand, where that was printed, and with bytes in hand where it has more.
@@ -261,37 +256,85 @@ fn onward(s: Source, is_printed: bool, size: usize, part: usize, buffer: &mut [u
     filled(s, part, buffer)
 }
 
-// The row in hand is printed: whose is next.
-pub fn step(o: Order, buffer: &mut [u8]) -> Order {
-    let last = o.next;
+// The next row, behind the one in hand if there is one; where there is no more, TERMINATE.
+fn next_row(o: Order, is_row: bool, buffer: &mut [u8]) -> Order {
     let size = o.size;
     let part = o.part;
     let first = o.first;
-    let first = onward(first, is_first(last), size, part, buffer);
+    let first = onward(first, is_row & !o.is_second, size, part, buffer);
     let second = o.second;
-    let second = onward(second, is_second(last), size, part, buffer);
+    let second = onward(second, is_row & o.is_second, size, part, buffer);
     let list = o.list;
     let named = next_named(list, buffer);
-    let next = choice(first, second, named, o.is_second);
+    let c = chosen(first, second, named, o.is_second_next);
     let list = named.list;
+    let turn = c.turn;
     Order {
         first,
         second,
         list,
         size,
         part,
-        is_second: list.is_ended & is_first(next),
-        next,
+        turn,
+        is_second: c.is_second,
+        is_second_next: list.is_ended & !c.is_second,
     }
 }
 
-// The record file whose row is in hand.
-pub fn current(o: Order) -> Source {
-    let next = o.next;
-    match next {
-        Next::Second => o.second,
-        _ => o.first,
+// ---- which call is next
+// At a call without a row.
+fn at(o: Order, turn: Turn, is_second: bool) -> Order {
+    let first = o.first;
+    let second = o.second;
+    let list = o.list;
+    Order {
+        first,
+        second,
+        list,
+        size: o.size,
+        part: o.part,
+        turn,
+        is_second,
+        is_second_next: false,
     }
+}
+
+// The call in hand is made: the one behind it. INITIATE of the first and of the second, the rows, TERMINATE of the first and of the second.
+pub fn step(o: Order, buffer: &mut [u8]) -> Order {
+    let turn = o.turn;
+    match turn {
+        Turn::Start => at(o, Turn::Initiate, false),
+        Turn::Initiate => {
+            if o.is_second {
+                next_row(o, false, buffer)
+            } else {
+                at(o, Turn::Initiate, true)
+            }
+        }
+        Turn::Row => next_row(o, true, buffer),
+        Turn::Terminate => {
+            if o.is_second {
+                at(o, Turn::End, false)
+            } else {
+                at(o, Turn::Terminate, true)
+            }
+        }
+        _ => o,
+    }
+}
+
+// Whether there is no call in hand.
+pub fn is_over(o: Order) -> bool {
+    let turn = o.turn;
+    match turn {
+        Turn::End | Turn::Stop => true,
+        _ => false,
+    }
+}
+
+// The record file of the agent whose call is in hand.
+pub fn current(o: Order) -> Source {
+    if o.is_second { o.second } else { o.first }
 }
 
 // How many rows are printed.
@@ -299,4 +342,19 @@ pub fn rows(o: Order) -> u64 {
     let first = o.first;
     let second = o.second;
     std::num::wrapping_add_u64(first.taken, second.taken)
+}
+
+// The call in hand, in words: a row by its number.
+pub fn say(o: Order) {
+    let turn = o.turn;
+    match turn {
+        Turn::Initiate => words::say(b", INITIATE: "),
+        Turn::Terminate => words::say(b", TERMINATE: "),
+        _ => {
+            let s = current(o);
+            words::say(b", row ");
+            words::say_number(std::num::wrapping_add_u64(s.taken, 1));
+            words::say(b": ");
+        }
+    }
 }

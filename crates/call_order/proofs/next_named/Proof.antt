@@ -1,11 +1,11 @@
--- `row_order::next_named` meets its contract. The invariant: the buffer keeps its length. The measure is the turns.
+-- `call_order::next_named` meets its contract. The invariant: the buffer keeps its length. The measure is the turns.
 -- Assumes nothing.
 use mathlib.Core.Path.{_≡_}
 use native.Mathlib.Omega.{arith}
 use borrow.Author.Needs.{needs}
 use lib.ListN.{length}
-use Rattle.row_order.proofs.next_named.Statement.{statement}
-use Rattle.row_order.proofs.next_named.Tie as tie
+use Rattle.call_order.proofs.next_named.Statement.{statement}
+use Rattle.call_order.proofs.next_named.Tie as tie
 
 abbrev Inv-loop : tie.InvT-loop
 Inv-loop buffer₀ list₀ c₀ turns₀ buffer list c turns = length buffer ≡ length buffer₀
