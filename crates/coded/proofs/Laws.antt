@@ -10,15 +10,15 @@
 use Prim.Native.Nat.{ℕ, zero, suc, _+_, _*_, _/_, _-_, _≤_, _<_}
 use mathlib.Core.Path.{_≡_, refl, sym, ap, _∙_}
 use mathlib.Core.Bool.{true, false, cond, _&&_, not, false≢true}
-use mathlib.Core.List.{List, [], _∷_, _++_, append-assoc, append-nil}
-use native.Mathlib.Nat.{zero-add, add-zero, suc-add, add-suc, add-mul, zero-mul, mul-le-mul-right, mul-add-div-right, mul-div-cancel, div-self, zero-div}
+use mathlib.Core.List.{List, [], _∷_, _++_}
+use native.Mathlib.Nat.{zero-add, suc-add, add-mul, zero-mul, mul-le-mul-right, mul-add-div-right, mul-div-cancel, div-self, zero-div}
 use native.Mathlib.Omega.{arith}
 use lib.ListN.{length, getD, take, drop, length-append, length-drop}
 use lib.Seq.{getD-take, take-nil, take-all, take-append-le, drop-append-le, drop-append-add}
 use lib.Dec.{eqb}
 use borrow.Author.Tests.{eqb-true, not-true, eq-eqb}
 use Rattle.counts.specs.Below.{joinBelow}
-use Rattle.counts.proofs.Laws.{by-test, by-cond, and-l, and-r, join-same}
+use Rattle.counts.proofs.Laws.{by-test, by-cond, and-l, and-r, join-same, join-append}
 use Rattle.ascii.specs.Printable.{allPrintable}
 use Rattle.printed.specs.Printed.{inFront, Short}
 use Rattle.coded.specs.Coded.{codeSize, codePrefix, carries, codesOk, recordAt, plainIf, takenApart}
@@ -70,12 +70,6 @@ codes-apart one two e =
     (a, by-test (carries two one) (λ q. absurd (false≢true (sym a ∙ carries-turned two one q))) (λ q. q))
 
 -- ---- whole records
-
--- lists joined, in two parts
-join-append : (m n : ℕ) (f : ℕ → List ℕ) → joinBelow (m + n) f ≡ joinBelow m f ++ joinBelow n (λ j. f (m + j))
-unfolding joinBelow
-join-append m zero f = rw (add-zero, append-nil) refl
-join-append m (suc n) f = rw (add-suc, join-append m n f) (append-assoc (joinBelow m f) (joinBelow n (λ j. f (m + j))) (f (m + n)))
 
 module _ (code : List ℕ) {size : ℕ} (pos : 1 ≤ size) where
   pub apart-nil : takenApart code size [] ≡ []

@@ -7,17 +7,17 @@
 --     first-at, first-upto      the index found passes, and none before it does
 --     fold-next   one turn of a fold; fold-keeps   what every turn keeps; fold-same   a fold goes by its function below the bound alone
 --     list-at, list-filled      an entry of a list made of f, and a list that has f at each index; list-next   one entry more
---     join-same   so does a join; join-at   an entry of a join, by the lengths of its lists
+--     join-same   so does a join; join-append   in two parts; join-at   an entry of a join, by the lengths of its lists
 --     join-list   the parts of one list, joined
 -- Assumes nothing.
 use mathlib.Core.Path.{_≡_, refl, sym, _∙_, ap}
-use mathlib.Core.List.{List, [], _∷_, _++_}
+use mathlib.Core.List.{List, [], _∷_, _++_, append-assoc, append-nil}
 use lib.ListN.{length, getD, length-append, List·getD-append}
 use lib.Seq.{ext-getD, getD-append-add}
 use mathlib.Core.Logic.{⊎-elim}
 use mathlib.Core.Bool.{Bool, true, false, cond, _&&_, _||_, false≢true}
 use Prim.Native.Nat.{ℕ, zero, suc, _+_, _*_, _≤_, _<_}
-use native.Mathlib.Nat.{le-of-suc-le-suc, not-suc-le-zero, eq-or-lt-of-le, le-antisymm, zero-add, add-zero, suc-add, mul-suc}
+use native.Mathlib.Nat.{le-of-suc-le-suc, not-suc-le-zero, eq-or-lt-of-le, le-antisymm, zero-add, add-zero, add-suc, suc-add, mul-suc}
 use native.Mathlib.Numerals.{add-one}
 use native.Mathlib.Omega.{arith}
 use lib.Dec.{ltb}
@@ -204,6 +204,12 @@ pub join-same : {A : Type 0} (n : ℕ) (f g : ℕ → List A) → ((i : ℕ) →
 unfolding joinBelow
 join-same zero f g h = refl
 join-same (suc n) f g h = rw (join-same n f g (λ i l. h i (omega arith)), h n (omega arith)) refl
+
+-- a join in two parts
+pub join-append : {A : Type 0} (m n : ℕ) (f : ℕ → List A) → joinBelow (m + n) f ≡ joinBelow m f ++ joinBelow n (λ j. f (m + j))
+unfolding joinBelow
+join-append m zero f = rw (add-zero, append-nil) refl
+join-append m (suc n) f = rw (add-suc, join-append m n f) (append-assoc (joinBelow m f) (joinBelow n (λ j. f (m + j))) (f (m + n)))
 
 -- lists joined, of which list i has w i entries
 
