@@ -34,7 +34,9 @@ fn call_in(
     match checked {
         Checked::Broken(rule) => answer::refusal(s, Verdict::Description(rule)),
         Checked::Accepted => {
-            calls::call_on(t, h, description::characters_in(d, h), s, asked, rec, out)
+            let prefix = printed::no_prefix();
+            let chars = description::characters_in(d, h);
+            calls::call_with(t, h, chars, prefix, s, asked, rec, out)
         }
     }
 }

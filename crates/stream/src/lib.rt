@@ -33,6 +33,8 @@ pub fn rows_on(
     let mut k = 0;
     let mut at = 0;
     let mut verdict = Verdict::Accepted;
+    // one call less than `calls::call_on`, and one copy of the state
+    let prefix = printed::no_prefix();
     if size == 0 {
         return Run {
             done: k,
@@ -42,10 +44,11 @@ pub fn rows_on(
         };
     }
     while size <= n - k {
-        let a = calls::call_on(
+        let a = calls::call_with(
             t,
             h,
             chars,
+            prefix,
             state,
             Asked::Generate(detail),
             &rows[k..k + size],

@@ -2,6 +2,8 @@
 -- Assumes nothing.
 use mathlib.Core.Path.{sym, _∙_}
 use borrow.Author.Needs.{needs}
+use Rattle.printed.proofs.Laws.{no-prefix-short}
+use Rattle.calls.proofs.Answers.{plain-so}
 use Rattle.report.proofs.Checked.{accepted-so, call-so, call-broken}
 use Rattle.report.proofs.call_in.Statement.{statement}
 use Rattle.report.proofs.call_in.Tie as tie
@@ -13,20 +15,20 @@ checked l = l .before .before .before .before .before .before
 abbrev start : tie.After-check-in → tie.Start
 start k = k .before .before .before .before .before .before
 
-call-on-requires : tie.Need-call-on-requires
-call-on-requires c κs =
-    let l = c .before in
+call-with-requires : tie.Need-call-with-requires
+call-with-requires c κs =
+    let l = c .before .before in
     let k = checked l in
-    accepted-so _ _ _ _ (sym (k .check-in .ensures .0) ∙ l .before .before .enum-told .given .1) (start k .pre .head) (k .check-in .ensures .1) (l .characters-in .ensures)
+    (accepted-so _ _ _ _ (sym (k .check-in .ensures .0) ∙ l .before .before .enum-told .given .1) (start k .pre .head) (k .check-in .ensures .1) (l .characters-in .ensures), rw (l .before .no-prefix .ensures) no-prefix-short)
 
 returns : tie.Need-returns
 returns c = call-broken _ _ (sym (c .before .before .before .before .before .before .check-in .ensures .0) ∙ c .before .before .checked .given .1) _ _ (c .refusal .ensures) _ _ _
 
 returns-2 : tie.Need-returns-2
 returns-2 c =
-    let l = c .before .before .before .before in
+    let l = c .before .before .before .before .before in
     let k = checked l in
-    call-so _ _ _ _ (sym (k .check-in .ensures .0) ∙ l .before .before .enum-told .given .1) (start k .pre .head) (k .check-in .ensures .1) (l .characters-in .ensures) _ _ _ _ _ _ (c .before .before .call-on .ensures)
+    call-so _ _ _ _ (sym (k .check-in .ensures .0) ∙ l .before .before .enum-told .given .1) (start k .pre .head) (k .check-in .ensures .1) (l .characters-in .ensures) _ _ _ _ _ _ (plain-so _ _ _ _ _ _ _ (l .before .no-prefix .ensures) (c .before .before .call-with .ensures))
 
 pub call-in-spec : {M : Type 1} → statement M
 call-in-spec =
@@ -36,8 +38,9 @@ call-in-spec =
     (λ c. search needs)
     (λ c κs. search needs)
     (λ c. search needs)
+    (λ c κs. search needs)
     (λ c κs. let p = c .before .before .before .before .before .before .before .before .before .before .before .pre in (p .d1, p .head))
-    call-on-requires
+    call-with-requires
     (λ c. search needs)
     returns
     (λ c. search needs)
