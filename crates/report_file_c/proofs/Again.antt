@@ -21,7 +21,7 @@ use Rattle.report_file.specs.declared.Agent.{Agent}
 use Rattle.report_file.specs.declared.Agent.the-variants.{First, Second}
 use Rattle.report_file.specs.declared.ReportFile.{ReportFile}
 use Rattle.report_file.specs.File.{moved}
-use Rattle.report_file_c.specs.Bytes.{secondAt, codesAt, placeAt, fileSize, stateAt, codeBytes, bytesOf, storedIn, codeFrom, stateFrom, fileOf}
+use Rattle.report_file_c.specs.Bytes.{secondAt, codesAt, placeAt, fileSize, codeBytes, bytesOf, storedIn, codeFrom, stateFrom, fileOf}
 use Rattle.report_file_c.specs.Facts.{FileSized}
 use Rattle.report_file_c.proofs.Laws.{length-one, length-two, length-codes}
 

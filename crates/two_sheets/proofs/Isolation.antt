@@ -2,7 +2,7 @@
 -- Assumes nothing.
 use Prim.Native.Nat.{ℕ, suc, _+_}
 use mathlib.Core.Path.{_≡_, refl, sym, ap, ap₂, _∙_}
-use mathlib.Core.Bool.{Bool, true, false, true≢false, cond}
+use mathlib.Core.Bool.{Bool, true, false, true≢false}
 use mathlib.Core.List.{List, [], _∷_, map}
 use native.Mathlib.Omega.{arith}
 use borrow.Author.Tests.{eqb-true}
@@ -41,11 +41,11 @@ use Rattle.report_file.specs.declared.FileVerdict.{FileVerdict}
 use Rattle.report_file.specs.declared.FileVerdict.the-variants.{BadCodes, Call}
 use Rattle.report_file.specs.declared.Filed.{Filed}
 use Rattle.report_file.specs.Verdict.{number}
-use Rattle.report_file.specs.File.{stateOf, codeOf, codesOk, moved, FiledResult}
+use Rattle.report_file.specs.File.{stateOf, codeOf, codesOk, moved}
 use Rattle.report_file.specs.Calls as files
 use Rattle.report_file.specs.Calls.{startsBeyond, filedOf}
 use Rattle.book.specs.Book as book
-use Rattle.two_sheets.specs.Runs.{AgentCall, Got, isSame, answer, Done, did, run, askedBy, doneFor, got, noRoom}
+use Rattle.two_sheets.specs.Runs.{AgentCall, Got, isSame, answer, did, run, askedBy, doneFor, got, noRoom}
 use Rattle.two_sheets.specs.Claims.{Isolated}
 
 -- ---- one call, whatever the output

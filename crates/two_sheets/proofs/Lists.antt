@@ -2,17 +2,12 @@
 -- Assumes nothing.
 use Prim.Native.Nat.{ℕ, _+_, _-_, _*_, _≤_}
 use mathlib.Core.Path.{_≡_, refl, sym, ap, ap₂, subst, _∙_}
-use mathlib.Core.Bool.{Bool, true, false, cond, not, _&&_}
+use mathlib.Core.Bool.{true, false, not}
 use mathlib.Core.List.{List, [], _∷_, _++_, map, append-assoc, append-nil}
-use mathlib.Core.Logic.{_⊎_}
 use native.Mathlib.Nat.{zero-mul, add-mul}
 use native.Mathlib.Omega.{arith}
-use borrow.Author.Tests.{not-true, eqb-true, eq-eqb}
-use lib.Dec.{eqb}
 use lib.ListN.{length, take, drop, replicate, length-append}
 use lib.Seq.{drop-drop, length-take-le}
-use Rattle.counts.proofs.Laws.{and-l, and-r, by-test}
-use Rattle.ascii.specs.Printable.{allPrintable}
 use Rattle.tables.specs.declared.Head.{Head}
 use Rattle.unpacked.specs.Head.{headOf}
 use Rattle.unpacked.specs.Table.{table, characters}
@@ -20,8 +15,7 @@ use Rattle.description.specs.declared.Checked.the-variants.{Accepted}
 use Rattle.description.specs.Check.{checked}
 use Rattle.accepted.proofs.Accept.{accepted as accepts}
 use Rattle.printed.specs.Printed.{noPrefix, recordSize}
-use Rattle.coded.specs.Coded as coded
-use Rattle.coded.specs.Coded.{codeSize, codePrefix, carries, takenApart}
+use Rattle.coded.specs.Coded.{codeSize, carries, takenApart}
 use Rattle.coded.proofs.Laws.{codes-apart, apart-nil, apart-append}
 use Rattle.pagination.specs.All.{All}
 use Rattle.state.specs.declared.State.{State}
@@ -40,11 +34,11 @@ use Rattle.report_file.specs.declared.Codes.{Codes}
 use Rattle.report_file.specs.declared.ReportFile.{ReportFile}
 use Rattle.report_file.specs.declared.FileVerdict.{FileVerdict}
 use Rattle.report_file.specs.Verdict.{number}
-use Rattle.report_file.specs.File.{stateOf, codeOf, CodesLong, codesOk, moved, freshFile, FiledResult}
+use Rattle.report_file.specs.File.{stateOf, codeOf, CodesLong, codesOk, moved, freshFile}
 use Rattle.book.specs.Book.{Call, initiate, generate, terminate}
 use Rattle.book.specs.Demand as book
 use Rattle.book.proofs.Theorem.{demand3}
-use Rattle.two_sheets.specs.Runs.{AgentCall, isSame, answer, Done, did, run, Left, left, doneFor, alone, own, Seen, seen, seenAlone}
+use Rattle.two_sheets.specs.Runs.{AgentCall, isSame, answer, Done, did, run, left, doneFor, alone, own, Seen, seen, seenAlone}
 use Rattle.two_sheets.specs.Claims.{size, Allowed, TwoSheets}
 use Rattle.two_sheets.proofs.Step.{Fine, Stepped, steps, alone-stands, alone-fine}
 

@@ -2,11 +2,10 @@
 -- Assumes nothing.
 use Prim.Native.Nat.{ℕ, _≤_}
 use mathlib.Core.Path.{_≡_, refl, sym, _∙_}
-use mathlib.Core.Bool.{Bool, true, false, true≢false, _&&_, not}
+use mathlib.Core.Bool.{Bool, true, false, true≢false}
 use mathlib.Core.List.{List, []}
-use mathlib.Core.Logic.{_⊎_, inl, inr}
+use mathlib.Core.Logic.{inl, inr}
 use native.Mathlib.Omega.{arith}
-use borrow.Author.Tests.{eqb-true, eqb-false}
 use lib.ListN.{length}
 use Rattle.counts.proofs.Laws.{by-test}
 use Rattle.tables.specs.declared.Head.{Head}
@@ -23,10 +22,9 @@ use Rattle.calls.specs.declared.Asked.{Asked}
 use Rattle.calls.specs.declared.Asked.the-variants.{Initiate, Generate, Terminate}
 use Rattle.report_file.specs.declared.Agent.{Agent}
 use Rattle.report_file.specs.declared.ReportFile.{ReportFile}
-use Rattle.report_file.specs.declared.FileVerdict.{FileVerdict}
-use Rattle.report_file.specs.declared.FileVerdict.the-variants.{BadCodes, Call}
+use Rattle.report_file.specs.declared.FileVerdict.the-variants.{Call}
 use Rattle.report_file.specs.Verdict.{number, accepted}
-use Rattle.report_file.specs.File.{codesOk, FiledResult, refuse}
+use Rattle.report_file.specs.File.{codesOk, refuse}
 use Rattle.report_file.specs.Calls as files
 use Rattle.report_file.specs.Calls.{startsBeyond, filedOf}
 use Rattle.book.specs.Book as book

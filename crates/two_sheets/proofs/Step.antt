@@ -1,17 +1,17 @@
 -- One call of an agent on the report file, beside the same call with an output to itself.
 -- Assumes nothing.
 use Prim.Native.Nat.{ℕ, zero, suc, _+_, _-_, _*_, _≤_, _<_}
-use mathlib.Core.Path.{_≡_, refl, sym, ap, ap₂, _∙_}
-use mathlib.Core.Bool.{Bool, true, false, cond}
+use mathlib.Core.Path.{_≡_, refl, sym, ap, _∙_}
+use mathlib.Core.Bool.{true, false}
 use mathlib.Core.List.{List, [], _++_, append-assoc, append-nil}
 use mathlib.Core.Logic.{_⊎_, inl, inr}
 use native.Mathlib.Nat.{add-zero, zero-add, zero-mul, suc-mul}
 use native.Mathlib.Omega.{arith}
-use borrow.Author.Tests.{ltb-true, ltb-false, lt-ltb, le-ltb, eq-eqb, ne-eqb, eqb-true}
-use lib.Dec.{ltb, eqb}
-use lib.ListN.{length, take, drop, replicate, length-append, length-take, length-drop, length-replicate, take-append-drop}
+use borrow.Author.Tests.{ltb-true, ltb-false, lt-ltb, le-ltb}
+use lib.Dec.{ltb}
+use lib.ListN.{length, take, drop, replicate, length-append, length-drop, length-replicate}
 use lib.Seq.{take-at, length-take-le, drop-drop}
-use Rattle.counts.proofs.Laws.{by-test, by-cond}
+use Rattle.counts.proofs.Laws.{by-test}
 use Rattle.splice.specs.Splice.{splice}
 use Rattle.splice.proofs.Laws.{length-splice, drop-splice}
 use Rattle.tables.specs.declared.Head.{Head}
@@ -21,7 +21,7 @@ use Rattle.description.specs.declared.Checked.the-variants.{Accepted}
 use Rattle.description.specs.Check.{checked}
 use Rattle.accepted.specs.Accepted as facts
 use Rattle.accepted.proofs.Accept.{accepted as accepts}
-use Rattle.printed.specs.Printed.{noPrefix, recordSize, Short}
+use Rattle.printed.specs.Printed.{noPrefix, recordSize}
 use Rattle.coded.specs.Coded.{codeSize, codePrefix, carries, takenApart}
 use Rattle.coded.proofs.Laws.{code-short, apart-nil}
 use Rattle.state.specs.declared.State.{State}
@@ -30,12 +30,12 @@ use Rattle.verdict.specs.declared.Verdict.the-variants as verdict
 use Rattle.verdict.specs.Verdict.{number, accepted}
 use Rattle.answer.specs.Result as answer
 use Rattle.answer.specs.Result.{Result}
-use Rattle.work.specs.Work.{Work, prefixed, settled}
+use Rattle.work.specs.Work.{prefixed, settled}
 use Rattle.work.specs.Rows.{rowWork, lastWork}
 use Rattle.work.specs.Facts.{Stands}
 use Rattle.calls.specs.declared.Asked.{Asked}
 use Rattle.calls.specs.declared.Asked.the-variants.{Initiate, Generate, Terminate}
-use Rattle.calls.specs.Calls.{callOn, callWith}
+use Rattle.calls.specs.Calls.{callOn}
 use Rattle.every_call.proofs.Settles.{each-settled}
 use Rattle.every_call.proofs.Branches.{each-call}
 use Rattle.every_call.proofs.Rules.{call-stands}
@@ -45,12 +45,12 @@ use Rattle.room.proofs.Rows.{call-put, call-with-put}
 use Rattle.report_file.specs.declared.Agent.{Agent}
 use Rattle.report_file.specs.declared.Agent.the-variants.{First, Second}
 use Rattle.report_file.specs.declared.ReportFile.{ReportFile}
-use Rattle.report_file.specs.declared.FileVerdict.the-variants.{BadCodes, Call}
+use Rattle.report_file.specs.declared.FileVerdict.the-variants.{Call}
 use Rattle.report_file.specs.File as file
 use Rattle.report_file.specs.File.{stateOf, codeOf, codesOk, moved, FiledResult, refuse}
 use Rattle.report_file.specs.Calls as files
 use Rattle.report_file.specs.Calls.{startsBeyond, filedOf}
-use Rattle.two_sheets.proofs.Own.{Coded, coded-none, Twin, call-twin}
+use Rattle.two_sheets.proofs.Own.{Twin, call-twin}
 
 -- "a call is refused only for reasons 3 to 9"
 abbrev pub Fine : ℕ → Type 0

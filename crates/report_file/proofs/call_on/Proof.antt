@@ -1,7 +1,7 @@
 -- `report_file::call_on` meets its contract: refusal 11, then the agent's own call in the room behind the place.
 -- Assumes nothing.
 use native.Mathlib.Omega.{arith}
-use mathlib.Core.Path.{_≡_, sym, _∙_}
+use mathlib.Core.Path.{sym, _∙_}
 use borrow.Author.Needs.{needs}
 use borrow.Author.Tests.{not-true, not-false}
 use Rattle.report_file.proofs.Laws.{codes-refused, count-fits, called-so}

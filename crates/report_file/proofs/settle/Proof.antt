@@ -2,7 +2,6 @@
 -- Assumes nothing.
 use mathlib.Core.Path.{sym, _∙_}
 use borrow.Author.Needs.{needs}
-use borrow.Author.Tests.{not-true, not-false}
 use Rattle.report_file.proofs.Laws.{filed-refused, filed-beyond, filed-advanced}
 use Rattle.report_file.proofs.settle.Statement.{statement}
 use Rattle.report_file.proofs.settle.Tie as tie
