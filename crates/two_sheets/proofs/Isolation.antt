@@ -47,6 +47,7 @@ use Rattle.report_file.specs.Calls.{startsBeyond, filedOf}
 use Rattle.book.specs.Book as book
 use Rattle.two_sheets.specs.Runs.{AgentCall, Got, isSame, answer, did, run, askedBy, doneFor, got, noRoom}
 use Rattle.two_sheets.specs.Claims.{Isolated}
+use Rattle.two_sheets.proofs.Agents.{moved-own, moved-not, moved-codes}
 
 -- ---- one call, whatever the output
 -- two answers are one where both or neither are refusal 9
@@ -104,10 +105,6 @@ short x = eqb (number (x .verdict)) 9
 
 abbrev gets : FileVerdict → ℕ → State → Got
 gets v count s = record { verdict = v; count = count; state = s }
-
-moved-own : (f : ReportFile) (agent : Agent) (s : State) (place : ℕ) → stateOf (moved f agent s place) agent ≡ s
-moved-own f First s place = refl
-moved-own f Second s place = refl
 
 module _ (agent : Agent) (f g : ReportFile) (same : stateOf f agent ≡ stateOf g agent) (a b : Answer) (twin : Same a b) where
   abbrev Alike : Bool → Bool → Type 0
@@ -206,16 +203,6 @@ cons-head {A} {x} e = ap (front x) e
 cons-tail : {A : Type 0} {x y : A} {xs ys : List A} → x ∷ xs ≡ y ∷ ys → xs ≡ ys
 cons-tail {A} e = ap rest e
 
-other-stays : (f : ReportFile) (agent b : Agent) → isSame agent b ≡ false → (s : State) (place : ℕ) → stateOf (moved f b s place) agent ≡ stateOf f agent
-other-stays f First First e s place = absurd (true≢false e)
-other-stays f First Second e s place = refl
-other-stays f Second First e s place = refl
-other-stays f Second Second e s place = absurd (true≢false e)
-
-codes-stay : (f : ReportFile) (b : Agent) (s : State) (place : ℕ) → moved f b s place .codes ≡ f .codes
-codes-stay f First s place = refl
-codes-stay f Second s place = refl
-
 is-agent : (agent b : Agent) → isSame agent b ≡ true → b ≡ agent
 is-agent First First e = refl
 is-agent First Second e = absurd (true≢false (sym e))
@@ -224,15 +211,15 @@ is-agent Second Second e = refl
 
 module _ (d : List ℕ) where
   codes-kept : (f : ReportFile) (b : Agent) (c : book.Call) (o : List ℕ) → answer d f b c o .filed .file .codes ≡ f .codes
-  codes-kept f b book.initiate o = kept b Initiate [] f o (λ (x : ReportFile). x .codes ≡ f .codes) refl (codes-stay f b) d
-  codes-kept f b (book.generate detail row) o = kept b (Generate detail) row f o (λ (x : ReportFile). x .codes ≡ f .codes) refl (codes-stay f b) d
-  codes-kept f b book.terminate o = kept b Terminate [] f o (λ (x : ReportFile). x .codes ≡ f .codes) refl (codes-stay f b) d
+  codes-kept f b book.initiate o = kept b Initiate [] f o (λ (x : ReportFile). x .codes ≡ f .codes) refl (moved-codes f b) d
+  codes-kept f b (book.generate detail row) o = kept b (Generate detail) row f o (λ (x : ReportFile). x .codes ≡ f .codes) refl (moved-codes f b) d
+  codes-kept f b book.terminate o = kept b Terminate [] f o (λ (x : ReportFile). x .codes ≡ f .codes) refl (moved-codes f b) d
 
   -- "Nothing the other does alters a state"
   pub state-kept : (agent : Agent) (f : ReportFile) (b : Agent) → isSame agent b ≡ false → (c : book.Call) (o : List ℕ) → stateOf (answer d f b c o .filed .file) agent ≡ stateOf f agent
-  state-kept agent f b e book.initiate o = kept b Initiate [] f o (λ (x : ReportFile). stateOf x agent ≡ stateOf f agent) refl (other-stays f agent b e) d
-  state-kept agent f b e (book.generate detail row) o = kept b (Generate detail) row f o (λ (x : ReportFile). stateOf x agent ≡ stateOf f agent) refl (other-stays f agent b e) d
-  state-kept agent f b e book.terminate o = kept b Terminate [] f o (λ (x : ReportFile). stateOf x agent ≡ stateOf f agent) refl (other-stays f agent b e) d
+  state-kept agent f b e book.initiate o = kept b Initiate [] f o (λ (x : ReportFile). stateOf x agent ≡ stateOf f agent) refl (moved-not f agent b e) d
+  state-kept agent f b e (book.generate detail row) o = kept b (Generate detail) row f o (λ (x : ReportFile). stateOf x agent ≡ stateOf f agent) refl (moved-not f agent b e) d
+  state-kept agent f b e book.terminate o = kept b Terminate [] f o (λ (x : ReportFile). stateOf x agent ≡ stateOf f agent) refl (moved-not f agent b e) d
 
   answer-same : (agent : Agent) (f g : ReportFile) → f .codes ≡ g .codes → stateOf f agent ≡ stateOf g agent → (o p : List ℕ) (c : book.Call) → short (answer d f agent c o .filed) ≡ short (answer d g agent c p .filed) → gotOf agent (answer d f agent c o .filed) ≡ gotOf agent (answer d g agent c p .filed)
   answer-same agent f g ec es o p book.initiate = file-same agent Initiate [] f g ec es o p d

@@ -2,7 +2,7 @@
 -- Assumes nothing.
 use Prim.Native.Nat.{ℕ, _+_, _-_, _*_, _≤_}
 use mathlib.Core.Path.{_≡_, refl, sym, ap, ap₂, subst, _∙_}
-use mathlib.Core.Bool.{true, false, not}
+use mathlib.Core.Bool.{true, false}
 use mathlib.Core.List.{List, [], _∷_, _++_, map, append-assoc, append-nil}
 use native.Mathlib.Nat.{zero-mul, add-mul}
 use native.Mathlib.Omega.{arith}
@@ -34,56 +34,14 @@ use Rattle.report_file.specs.declared.Codes.{Codes}
 use Rattle.report_file.specs.declared.ReportFile.{ReportFile}
 use Rattle.report_file.specs.declared.FileVerdict.{FileVerdict}
 use Rattle.report_file.specs.Verdict.{number}
-use Rattle.report_file.specs.File.{stateOf, codeOf, CodesLong, codesOk, moved, freshFile}
+use Rattle.report_file.specs.File.{stateOf, codeOf, CodesLong, codesOk, freshFile}
 use Rattle.book.specs.Book.{Call, initiate, generate, terminate}
 use Rattle.book.specs.Demand as book
 use Rattle.book.proofs.Theorem.{demand3}
-use Rattle.two_sheets.specs.Runs.{AgentCall, isSame, answer, Done, did, run, left, doneFor, alone, own, Seen, seen, seenAlone}
+use Rattle.two_sheets.specs.Runs.{AgentCall, answer, Done, did, run, left, doneFor, alone, own, Seen, seen, seenAlone}
 use Rattle.two_sheets.specs.Claims.{size, Allowed, TwoSheets}
+use Rattle.two_sheets.proofs.Agents.{otherOf, same-agent, other-agent, by-agent, both-of, moved-own, moved-other, moved-place, moved-codes}
 use Rattle.two_sheets.proofs.Step.{Fine, Stepped, steps, alone-stands, alone-fine}
-
--- ---- the two agents
-abbrev otherOf : Agent → Agent
-otherOf First = Second
-otherOf Second = First
-
-same-agent : (a : Agent) → isSame a a ≡ true
-same-agent First = refl
-same-agent Second = refl
-
-other-agent : (a : Agent) → isSame (otherOf a) a ≡ false
-other-agent First = refl
-other-agent Second = refl
-
--- an agent is this one or the other
-by-agent : (P : Agent → Type 0) (a : Agent) → P a → P (otherOf a) → (b : Agent) → P b
-by-agent P First p q First = p
-by-agent P First p q Second = q
-by-agent P Second p q First = q
-by-agent P Second p q Second = p
-
--- a sum over both
-both-of : (g : Agent → ℕ) (a : Agent) → g First + g Second ≡ g a + g (otherOf a)
-both-of g First = refl
-both-of g Second = omega arith
-
--- what a call leaves of the other's
-module _ (f : ReportFile) (s : State) (place : ℕ) where
-  moved-own : (a : Agent) → stateOf (moved f a s place) a ≡ s
-  moved-own First = refl
-  moved-own Second = refl
-
-  moved-other : (a : Agent) → stateOf (moved f a s place) (otherOf a) ≡ stateOf f (otherOf a)
-  moved-other First = refl
-  moved-other Second = refl
-
-  moved-place : (a : Agent) → moved f a s place .place ≡ place
-  moved-place First = refl
-  moved-place Second = refl
-
-  moved-codes : (a : Agent) → moved f a s place .codes ≡ f .codes
-  moved-codes First = refl
-  moved-codes Second = refl
 
 module _ (codes : Codes) (typed : CodesLong codes) (ok : codesOk codes ≡ true) where
   two-characters : (a : Agent) → length (codeOf codes a) ≡ codeSize
@@ -188,17 +146,17 @@ module _ (d : List ℕ) (e : checked d ≡ Accepted) (codes : Codes) (typed : Co
 
     -- what the call leaves of the report file
     pub own-state : stateOf f' A ≡ z .answer .state
-    own-state = rw (step .file) (moved-own f (z .answer .state) (f .place + length (step .lines)) A)
+    own-state = rw (step .file) (moved-own f A (z .answer .state) (f .place + length (step .lines)))
 
     other-state : stateOf f' (otherOf A) ≡ stateOf f (otherOf A)
-    other-state = rw (step .file) (moved-other f (z .answer .state) (f .place + length (step .lines)) A)
+    other-state = rw (step .file) (moved-other f A (z .answer .state) (f .place + length (step .lines)))
 
     next-place : f' .place ≡ f .place + length (step .lines)
-    next-place = rw (step .file) (moved-place f (z .answer .state) (f .place + length (step .lines)) A)
+    next-place = rw (step .file) (moved-place f A (z .answer .state) (f .place + length (step .lines)))
 
     pub next-inv : Inv f' out'
     next-inv = record {
-      same = rw (step .file) (moved-codes f (z .answer .state) (f .place + length (step .lines)) A) ∙ I .same;
+      same = rw (step .file) (moved-codes f A (z .answer .state) (f .place + length (step .lines))) ∙ I .same;
       inside = omega (arith, next-place, step .room, step .long);
       rows = I .rows + step .rows;
       whole = next-place ∙ ap₂ (λ (m n : ℕ). m + n) (I .whole) (step .whole) ∙ sym (add-mul (I .rows) (step .rows) (size d []));
