@@ -17,12 +17,13 @@ use Rattle.description.specs.declared.Checked.the-variants.{Accepted}
 use Rattle.description.specs.Check.{checked}
 use Rattle.accepted.specs.Accepted as facts
 use Rattle.layout.specs.Layout.{Due}
-use Rattle.pagination.specs.All.{All}
+use Rattle.counts.specs.All.{All}
 use Rattle.pagination.specs.Rising.{Climb, spotsOf}
 use Rattle.pagination.specs.Parts.{InPart}
 use Rattle.pagination.specs.Turns.{noGroup, Behind, bodies, UpToTwo}
 use Rattle.pagination.specs.Claims.{rankAt, lastOf}
-use Rattle.pagination.proofs.Climbs.{all-append, climb-append, rises}
+use Rattle.counts.proofs.All.{all-append}
+use Rattle.pagination.proofs.Climbs.{climb-append, rises}
 use Rattle.pagination.proofs.Turns.{chain-append, bodies-append}
 use Rattle.place.specs.Place.{lastPage}
 use Rattle.state.specs.declared.State.{State}

@@ -8,9 +8,9 @@ use mathlib.Core.Logic.{_⊎_, inl, inr}
 use native.Mathlib.Omega.{arith}
 use Rattle.tables.specs.declared.Head.{Head}
 use Rattle.layout.specs.Layout.{Due}
-use Rattle.pagination.specs.All.{All}
+use Rattle.counts.specs.All.{All}
 use Rattle.pagination.specs.Turns.{Chain, Behind, bodies, UpToTwo}
-use Rattle.pagination.proofs.Climbs.{all-map}
+use Rattle.counts.proofs.All.{all-map}
 use Rattle.pagination.specs.Claims.{lastOf, Walk}
 use Rattle.pagination.proofs.Turns.{pages-in}
 use Rattle.state.specs.declared.State.{State}

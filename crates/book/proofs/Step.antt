@@ -18,9 +18,9 @@ use Rattle.printed.proofs.Laws.{no-prefix-short}
 use Rattle.due_text.specs.Bytes.{Reading}
 use Rattle.due_text.proofs.Bytes.{printed-part}
 use Rattle.place.specs.Place.{lastPage}
-use Rattle.pagination.specs.All.{All}
+use Rattle.counts.specs.All.{All}
 use Rattle.pagination.specs.Claims.{Sound, rankAt, Walk}
-use Rattle.pagination.proofs.Climbs.{all-map}
+use Rattle.counts.proofs.All.{all-map}
 use Rattle.pagination.proofs.Groups.{sound-none}
 use Rattle.state.specs.declared.State.{State}
 use Rattle.state.specs.State.{idle}

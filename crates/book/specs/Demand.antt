@@ -11,7 +11,7 @@ use Rattle.unpacked.specs.Table.{table, characters}
 use Rattle.printed.specs.Printed.{noPrefix}
 use Rattle.due_text.specs.Bytes.{Reading, reading}
 use Rattle.place.specs.Place.{lastPage}
-use Rattle.pagination.specs.All.{All}
+use Rattle.counts.specs.All.{All}
 use Rattle.pagination.specs.Rising.{Rises}
 use Rattle.pagination.specs.Parts.{InPart}
 use Rattle.pagination.specs.Turns.{Chain, noGroup, Behind, bodies, UpToTwo}

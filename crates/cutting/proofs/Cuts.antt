@@ -14,7 +14,7 @@ use Rattle.unpacked.specs.Table.{table, characters}
 use Rattle.description.specs.declared.Checked.the-variants as checks
 use Rattle.description.specs.Check.{checked}
 use Rattle.accepted.specs.Accepted as facts
-use Rattle.pagination.specs.All.{All}
+use Rattle.counts.specs.All.{All}
 use Rattle.verdict.specs.Verdict.{number, accepted}
 use Rattle.stream.specs.Run.{Ran}
 use Rattle.feeder.specs.declared.Feeder.{Feeder}

@@ -19,7 +19,7 @@ use Rattle.accepted.specs.Accepted as facts
 use Rattle.accepted.proofs.Accept.{accepted}
 use Rattle.sums.specs.Sums.{sumsOk}
 use Rattle.amounts.proofs.Good.{zeros-good}
-use Rattle.pagination.specs.All.{All}
+use Rattle.counts.specs.All.{All}
 use Rattle.state_rules.proofs.States.{idle-facts, started-facts, running-facts, by-phase}
 use Rattle.state.specs.declared.State.{State}
 use Rattle.verdict.specs.Verdict.{number}

@@ -8,7 +8,7 @@ use Rattle.unpacked.specs.Head.{headOf}
 use Rattle.unpacked.specs.Table.{table}
 use Rattle.printed.specs.Printed.{noPrefix}
 use Rattle.due_text.specs.Bytes.{dueBytes, byteCount}
-use Rattle.pagination.specs.All.{All}
+use Rattle.counts.specs.All.{All}
 use Rattle.state.specs.State.{freshAt}
 use Rattle.answer.specs.Result.{Result}
 use Rattle.state_bytes.specs.Bytes.{bytesOf, stateOf}

@@ -22,8 +22,8 @@ use Rattle.plan.specs.declared.Plan.{Plan}
 use Rattle.plan.specs.Plan.{footings, headings, turns, firstPlan, laterPlan, lastPlan}
 use Rattle.layout.specs.declared.Pos.{Pos}
 use Rattle.layout.specs.Layout.{Due, Laid, dueOf, pageChange, pageChanges, placeGroup, placeAll, opening, opened, closing, closed, layout}
-use Rattle.pagination.specs.All.{All}
-use Rattle.pagination.proofs.Climbs.{all-append}
+use Rattle.counts.specs.All.{All}
+use Rattle.counts.proofs.All.{all-append}
 use Rattle.pagination.proofs.Calls.{detail-is}
 use Rattle.routes.specs.Facts.{level, Counters}
 use Rattle.explained.specs.Explained.{Row}

@@ -11,7 +11,7 @@ use lib.ListN.{length, take}
 use Rattle.counts.proofs.Laws.{by-test}
 use Rattle.description.specs.declared.Checked.the-variants.{Accepted}
 use Rattle.description.specs.Check.{checked}
-use Rattle.pagination.specs.All.{All}
+use Rattle.counts.specs.All.{All}
 use Rattle.feeder.specs.declared.Feeder.{Feeder}
 use Rattle.feeder.specs.Verdict.{accepted}
 use Rattle.feeder.specs.Feeder.{freshFeeder, FedResult}

@@ -5,7 +5,7 @@ use mathlib.Core.Path.{_≡_, refl, sym, ap, ap₂, _∙_}
 use mathlib.Core.List.{List, [], _∷_, _++_}
 use Rattle.description.specs.declared.Checked.the-variants.{Accepted}
 use Rattle.description.specs.Check.{checked}
-use Rattle.pagination.specs.All.{All}
+use Rattle.counts.specs.All.{All}
 use Rattle.state.specs.declared.State.{State}
 use Rattle.feeder.specs.declared.Feeder.{Feeder}
 use Rattle.feeder.specs.Feeder.{freshFeeder}

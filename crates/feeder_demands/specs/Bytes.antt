@@ -3,7 +3,7 @@ use Prim.Native.Nat.{ℕ}
 use mathlib.Core.Path.{_≡_}
 use mathlib.Core.List.{List, [], _∷_, _++_, map}
 use lib.ListN.{length, getD, take}
-use Rattle.pagination.specs.All.{All}
+use Rattle.counts.specs.All.{All}
 use Rattle.feeder.specs.Feeder.{freshFeeder, FedResult}
 use Rattle.feeder_c.specs.Bytes.{bytesOf, feederOf, discarded}
 use Rattle.feeder_c.specs.Leaves.{stored, numbers}

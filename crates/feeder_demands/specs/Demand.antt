@@ -12,7 +12,7 @@ use Rattle.verdict.specs.declared.Verdict.the-variants.{Accepted}
 use Rattle.tables.specs.declared.Head.{Head}
 use Rattle.unpacked.specs.Head.{headOf}
 use Rattle.unpacked.specs.Table.{table}
-use Rattle.pagination.specs.All.{All}
+use Rattle.counts.specs.All.{All}
 use Rattle.state.specs.declared.State.{State}
 use Rattle.state.specs.State.{freshAt}
 use Rattle.refusals.specs.declared.Tried.{Tried}

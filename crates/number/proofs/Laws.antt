@@ -72,6 +72,12 @@ value-below (b ∷ bs) a k t h =
     let e : k + 1 + length bs ≡ k + suc (length bs) = omega arith in
     subst (λ (n : ℕ). valueFrom (a * 10 + (b - 48)) bs < 10 ^ n) e (value-below bs (a * 10 + (b - 48)) (k + 1) (p .1) m)
 
+-- at most n digits stand for a number below 10 ^ n
+pub digits-below : (n : ℕ) (ds : List ℕ) → length ds ≤ n → allDigits ds ≡ true → valueFrom 0 ds < 10 ^ n
+digits-below n ds l t =
+    let m : 10 ^ (0 + length ds) ≤ 10 ^ n = pow-le-pow-right (lit< tt) (omega arith) in
+    omega (arith, value-below ds 0 0 t (lit< tt))
+
 pub value-inside : (ds : List ℕ) → allDigits ds ≡ true → length ds ≤ 18 → valueFrom 0 ds ≤ limit
 value-inside ds t l =
     let k : 0 + length ds ≤ 18 = omega arith in

@@ -21,7 +21,7 @@ fn is_digit(b: u8) -> bool
 }
 
 // Whether every byte of s from an offset on is a digit.
-fn all_digits(s: &[u8], from: usize) -> bool
+pub fn all_digits(s: &[u8], from: usize) -> bool
     ensures { λ r. ⌜ r ≡ allDigits (drop from (now (s .entry))) ⌝ }
 {
     let mut i = from;
@@ -45,7 +45,7 @@ pub fn is_number(s: &[u8]) -> bool
 }
 
 // What the digits of s from an offset on stand for.
-fn digits_value(s: &[u8], from: usize) -> u64
+pub fn digits_value(s: &[u8], from: usize) -> u64
     requires { ⌜ (length (now s) ≤ 18) × (allDigits (drop from (now s)) ≡ true) ⌝ }
     ensures { λ r. ⌜ r ≡ valueFrom 0 (drop from (now (s .entry))) ⌝ }
 {

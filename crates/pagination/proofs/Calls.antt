@@ -22,12 +22,12 @@ use Rattle.plan.specs.Plan.{detail, footings, headings, turns, firstPlan, later
 use Rattle.layout.specs.declared.Pos.{Pos}
 use Rattle.headings.specs.Headings.{reportHeading, pageHeading, pageFooting, reportFooting, rhAt, phAt, pfAt, rfAt}
 use Rattle.layout.specs.Layout.{dueOf, lineAfter, opening, ownPage, closing, andThen, placeAll, nothing, layout}
-use Rattle.pagination.specs.All.{All}
+use Rattle.counts.specs.All.{All}
 use Rattle.pagination.specs.Rising.{rank}
 use Rattle.pagination.specs.Parts.{partFrom, partTo}
 use Rattle.pagination.specs.Facts.{PageFits}
 use Rattle.pagination.specs.Claims.{Sound, rankAt, LaidRunning, LaidClosed}
-use Rattle.pagination.proofs.Climbs.{all-append}
+use Rattle.counts.proofs.All.{all-append}
 use Rattle.pagination.proofs.Groups.{sound-none, sound-append, heading-sound, type-is}
 use Rattle.pagination.proofs.Turns.{paged-after, opening-paged, own-closing, below-closing}
 use Rattle.pagination.proofs.Lands.{footing-part, page-heading-part, report-heading-part, TurnOk, all-placed, placed-none, placed-after}

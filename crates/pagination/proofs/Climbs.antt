@@ -1,4 +1,4 @@
--- Laws of `All`, `Climb` and `Rises`.
+-- Laws of `Climb` and `Rises`.
 -- Assumes nothing.
 use Prim.Native.Nat.{ℕ, zero, suc, _+_, _≤_, _<_}
 use mathlib.Core.Path.{_≡_, refl, sym}
@@ -8,17 +8,9 @@ use Rattle.tables.specs.declared.Head.{Head}
 use Rattle.lines.specs.Lines.{lineNumber}
 use Rattle.layout.specs.Layout.{Due}
 use Rattle.layout.specs.Lines.{linesFrom, linesOf}
-use Rattle.pagination.specs.All.{All}
+use Rattle.counts.specs.All.{All}
+use Rattle.counts.proofs.All.{all-append, all-map}
 use Rattle.pagination.specs.Rising.{Position, spotsAt, spotsOf, Later, Rises, rank, rankOf, Climb}
-
-module _ {A : Type 0} where
-  pub all-append : (F : A → Type 0) (xs ys : List A) → All F xs → All F ys → All F (xs ++ ys)
-  all-append F [] ys a b = b
-  all-append F (x ∷ xs) ys a b = (a .0, all-append F xs ys (a .1) b)
-
-  pub all-map : (F G : A → Type 0) → ((x : A) → F x → G x) → (xs : List A) → All F xs → All G xs
-  all-map F G f [] a = tt
-  all-map F G f (x ∷ xs) a = (f x (a .0), all-map F G f xs (a .1))
 
 pub climb-append : (xs ys : List Position) (a b c : ℕ) → Climb a xs b → Climb b ys c → Climb a (xs ++ ys) c
 climb-append [] [] a b c p q = omega arith

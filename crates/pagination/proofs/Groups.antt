@@ -23,7 +23,8 @@ use Rattle.pagination.specs.Rising.{rank, spotsAt, spotsOf}
 use Rattle.pagination.specs.Parts.{partFrom, partTo, InPart}
 use Rattle.pagination.specs.Facts.{PageFits}
 use Rattle.pagination.specs.Claims.{Sound}
-use Rattle.pagination.proofs.Climbs.{all-append, climb-append, climb-wider, spots-append, lines-climb, lines-all}
+use Rattle.counts.proofs.All.{all-append}
+use Rattle.pagination.proofs.Climbs.{climb-append, climb-wider, spots-append, lines-climb, lines-all}
 
 -- a sum of fewer steps is no greater
 sum-mono : (f : ℕ → ℕ) (i n : ℕ) → i ≤ n → sumBelow i f ≤ sumBelow n f

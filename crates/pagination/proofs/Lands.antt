@@ -24,7 +24,7 @@ use Rattle.plan.specs.declared.Turn.{Turn}
 use Rattle.layout.specs.declared.Pos.{Pos}
 use Rattle.headings.specs.Headings.{pageHeading, pageFooting}
 use Rattle.layout.specs.Layout.{Due, Laid, dueOf, pageChange, pageChanges, nextFor, placedLines, placed, placeGroup, andThen, placeAll}
-use Rattle.pagination.specs.All.{All}
+use Rattle.counts.specs.All.{All}
 use Rattle.pagination.specs.Rising.{rank}
 use Rattle.pagination.specs.Parts.{partFrom, partTo}
 use Rattle.pagination.specs.Facts.{PageFits}

@@ -14,10 +14,10 @@ use Rattle.fits.specs.Starts.{present, startFrom, aboveHead}
 use Rattle.layout.specs.declared.Pos.{Pos}
 use Rattle.headings.specs.Headings.{reportHeading, pageHeading, pageFooting, reportFooting, rhAt, phAt, pfAt, rfAt}
 use Rattle.layout.specs.Layout.{Due, Laid, dueOf, ownPage, pageChange, pageChanges, andThen, nothing, opening}
-use Rattle.pagination.specs.All.{All}
+use Rattle.counts.specs.All.{All}
 use Rattle.pagination.specs.Claims.{lastOf, Walk, Paged}
 use Rattle.pagination.specs.Turns.{Chain, HeadsPage, PageTurn, Behind, isBody, bodies, UpToTwo}
-use Rattle.pagination.proofs.Climbs.{all-map}
+use Rattle.counts.proofs.All.{all-map}
 use Rattle.pagination.proofs.Groups.{type-is}
 
 -- ---- chains

@@ -7,7 +7,7 @@ use Rattle.place.specs.Rules.{Running}
 use Rattle.shape.specs.Shape.{frameOf}
 use Rattle.layout.specs.declared.Pos.{Pos}
 use Rattle.layout.specs.Layout.{Due, Laid}
-use Rattle.pagination.specs.All.{All}
+use Rattle.counts.specs.All.{All}
 use Rattle.pagination.specs.Rising.{Climb, rank, spotsOf}
 use Rattle.pagination.specs.Parts.{InPart}
 use Rattle.pagination.specs.Turns.{Chain, Behind, bodies, UpToTwo}

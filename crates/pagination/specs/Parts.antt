@@ -8,7 +8,7 @@ use Rattle.tables.specs.declared.Head.{Head}
 use Rattle.tables.specs.Table.{typeOf}
 use Rattle.layout.specs.Layout.{Due, ownPage}
 use Rattle.layout.specs.Lines.{linesOf}
-use Rattle.pagination.specs.All.{All}
+use Rattle.counts.specs.All.{All}
 
 -- "CH, DE in FD..LD and CF in FD..FT, ..; RH, PH in H..FD−1, ..; PF in FT+1..P; RF in FT+1..P, or H..P where next page"
 unfoldable pub partFrom : Head → List ℕ → ℕ → ℕ

@@ -5,7 +5,7 @@ use mathlib.Core.List.{List, [], _∷_, _++_}
 use Rattle.tables.specs.declared.Head.{Head}
 use Rattle.layout.specs.Layout.{Due}
 use Rattle.layout.specs.Lines.{linesOf}
-use Rattle.pagination.specs.All.{All}
+use Rattle.counts.specs.All.{All}
 
 -- where a line stands: the number of its report, its page, its line number
 pub record Position : Type 0 where

@@ -14,7 +14,7 @@ use Rattle.unpacked.specs.Table.{table, characters}
 use Rattle.description.specs.declared.Checked.{Checked}
 use Rattle.description.specs.declared.Checked.the-variants.{Accepted, Broken}
 use Rattle.description.specs.Check.{checked}
-use Rattle.pagination.specs.All.{All}
+use Rattle.counts.specs.All.{All}
 use Rattle.state.specs.declared.State.{State}
 use Rattle.state.specs.State.{Sized}
 use Rattle.refusals.specs.declared.Tried.{Tried}

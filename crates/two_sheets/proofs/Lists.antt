@@ -17,7 +17,7 @@ use Rattle.accepted.proofs.Accept.{accepted as accepts}
 use Rattle.printed.specs.Printed.{noPrefix, recordSize}
 use Rattle.coded.specs.Coded.{codeSize, carries, takenApart}
 use Rattle.coded.proofs.Laws.{codes-apart, apart-nil, apart-append}
-use Rattle.pagination.specs.All.{All}
+use Rattle.counts.specs.All.{All}
 use Rattle.state.specs.declared.State.{State}
 use Rattle.state.specs.State.{freshAt}
 use Rattle.work.specs.Facts.{Stands}

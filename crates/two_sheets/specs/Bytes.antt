@@ -3,7 +3,7 @@ use Prim.Native.Nat.{ℕ}
 use mathlib.Core.Path.{_≡_}
 use mathlib.Core.List.{List, [], _∷_, map}
 use lib.ListN.{length, take}
-use Rattle.pagination.specs.All.{All}
+use Rattle.counts.specs.All.{All}
 use Rattle.report_file.specs.declared.Agent.{Agent}
 use Rattle.report_file.specs.declared.Codes.{Codes}
 use Rattle.report_file.specs.File.{freshFile, FiledResult}

@@ -8,7 +8,7 @@ use lib.ListN.{length, take, drop}
 use Rattle.unpacked.specs.Head.{headOf}
 use Rattle.printed.specs.Printed.{noPrefix, recordSize}
 use Rattle.coded.specs.Coded.{codePrefix, takenApart}
-use Rattle.pagination.specs.All.{All}
+use Rattle.counts.specs.All.{All}
 use Rattle.state.specs.State.{freshAt}
 use Rattle.report_file.specs.declared.Agent.{Agent}
 use Rattle.report_file.specs.declared.Agent.the-variants.{First, Second}

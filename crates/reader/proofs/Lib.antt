@@ -1,0 +1,2 @@
+-- Laws of well-formed records, and what is read of a sheet that was printed.
+pub mod Laws
