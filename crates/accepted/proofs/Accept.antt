@@ -122,7 +122,7 @@ rules-give v h t chars g r =
     }
 
 -- an item of version 1 has no picture
-plain-items : (d : List ℕ) → hasPictures (version d) ≡ false → (i : ℕ) → i < headOf d .items → itemPicture (headOf d) (table d) i ≡ noPicture
+pub plain-items : (d : List ℕ) → hasPictures (version d) ≡ false → (i : ℕ) → i < headOf d .items → itemPicture (headOf d) (table d) i ≡ noPicture
 plain-items d e i l = says d itemSection (omega arith) i l 6 (omega arith) ∙ without where
   without : inBytes d itemSection i 6 ≡ noPicture
   without = rw (item-without (version d) e) refl

@@ -19,7 +19,7 @@ use Rattle.tables.specs.Table.{firstLine, lineCount, firstItem, itemCount, item
 use Rattle.lookup.specs.Shared.{share, begins, sharedOut}
 use Rattle.groups.specs.Groups.{ruleD5}
 use Rattle.fits.specs.Fits.{ruleD6}
-use Rattle.picture.specs.Picture.{lengthIn}
+use Rattle.picture.specs.Picture.{lengthIn, pictureOk}
 use Rattle.picture.proofs.Laws.{lengthIn-le}
 use Rattle.pictures.specs.Pictures.{entryOf, suits, indexOk, pictureHere, rule9}
 
@@ -35,6 +35,13 @@ module _ (h : Head) (t : List ℕ) (k : ℕ) (e : sharedOut h t k ≡ true) wher
       let a : sumBelow (countOf h k) (share h t k) ≡ countOf h (k + 1) = eqb-true _ _ (and-r (allBelow (countOf h k) (begins h t k)) _ e) in
       omega (arith, a, sum-part (share h t k) i (countOf h k) l)
 
+-- the picture of an item that has one: it is there, it keeps rule 9, and it is as long as the item is wide
+pub record Pictured (h : Head) (t chars : List ℕ) (i : ℕ) : Type 0 where
+  pub there : itemPicture h t i < h .pictures
+  pub place : itemOf h t i .picture ≡ pictureStart h (itemPicture h t i)
+  pub wide : itemWidth h t i ≡ lengthIn (entryOf h chars (itemPicture h t i))
+  pub good : pictureOk (entryOf h chars (itemPicture h t i)) ≡ true
+
 module _ (v : ℕ) (h : Head) (t chars : List ℕ) (plain : hasPictures v ≡ false → (i : ℕ) → i < h .items → itemPicture h t i ≡ noPicture) where
   -- an item whose number is none has none
   none : (i : ℕ) → itemPicture h t i ≡ noPicture → itemOf h t i .picture ≡ noPicture
@@ -44,27 +51,34 @@ module _ (v : ℕ) (h : Head) (t chars : List ℕ) (plain : hasPictures v ≡ fa
     not-none : itemPicture h t i ≡ noPicture → false ≡ true
     not-none q = sym p ∙ eq-eqb _ noPicture (none i q)
 
-    -- where it has one, the picture is there, and as long as the item is wide
-    has : i < h .items → indexOk h t chars i ≡ true → (itemOf h t i .picture + itemOf h t i .width ≤ charactersOf h) × (itemOf h t i .width ≤ pictureMax)
+    has : indexOk h t chars i ≡ true → allBelow (h .pictures) (pictureHere h chars) ≡ true → Pictured h t chars i
     unfolding indexOk suits
-    has l o =
+    has o all =
         let f : eqb (itemPicture h t i) noPicture ≡ false = by-test (eqb (itemPicture h t i) noPicture) (λ q. absurd (false≢true (not-none (eqb-true _ noPicture q)))) (λ q. q) in
         let r = or-r _ _ o f in
         let b : itemPicture h t i < h .pictures = ltb-true _ _ (and-l _ _ r) in
-        let w : itemWidth h t i ≡ lengthIn (entryOf h chars (itemPicture h t i)) = eqb-true _ _ (search (and-l, and-r) depth 8) in
+        record {
+          there = b;
+          place = ap (λ (x : Bool). cond x noPicture (pictureStart h (itemPicture h t i))) f;
+          wide = eqb-true _ _ (search (and-l, and-r) depth 8);
+          good = all-at (pictureHere h chars) (itemPicture h t i) (h .pictures) b all;
+        }
+
+    item-pictured : rule9 v h t chars ≡ true → i < h .items → Pictured h t chars i
+    unfolding rule9
+    item-pictured e l =
+        by-test (hasPictures v)
+        (λ q. let r : (allBelow (h .pictures) (pictureHere h chars) && allBelow (h .items) (indexOk h t chars)) ≡ true = rw q at e in
+        has (all-at (indexOk h t chars) i (h .items) l (and-r (allBelow (h .pictures) (pictureHere h chars)) _ r)) (and-l (allBelow (h .pictures) (pictureHere h chars)) _ r))
+        (λ q. absurd (false≢true (not-none (plain q i l))))
+
+    -- it has no more characters than an entry, and they are among those of the description
+    inside : Pictured h t chars i → (itemOf h t i .picture + itemOf h t i .width ≤ charactersOf h) × (itemOf h t i .width ≤ pictureMax)
+    inside x =
         let n = lengthIn-le (entryOf h chars (itemPicture h t i)) in
         let m : length (entryOf h chars (itemPicture h t i)) ≤ pictureMax = simp length-take (omega arith) in
-        let s : itemWidth h t i ≤ pictureMax = omega (arith, w, n, m) in
-        let a : itemOf h t i .picture ≡ pictureStart h (itemPicture h t i) = ap (λ (x : Bool). cond x noPicture (pictureStart h (itemPicture h t i))) f in
-        (omega (arith, a, b, s), s)
-
-  item-pictured : rule9 v h t chars ≡ true → (i : ℕ) → i < h .items → PictureIn h (itemOf h t i)
-  unfolding rule9
-  item-pictured e i l p =
-      by-test (hasPictures v)
-      (λ q. let r : (allBelow (h .pictures) (pictureHere h chars) && allBelow (h .items) (indexOk h t chars)) ≡ true = rw q at e in
-      has i p l (all-at (indexOk h t chars) i (h .items) l (and-r (allBelow (h .pictures) (pictureHere h chars)) _ r)))
-      (λ q. absurd (false≢true (not-none i p (plain q i l))))
+        let s : itemWidth h t i ≤ pictureMax = omega (arith, x .wide, n, m) in
+        (omega (arith, x .place, x .there, s), s)
 
   module _ (e5 : ruleD5 h t ≡ true) (e6 : ruleD6 h t ≡ true) where
     lines-shared : sharedOut h t groupSection ≡ true
@@ -85,6 +99,12 @@ module _ (v : ℕ) (h : Head) (t chars : List ℕ) (plain : hasPictures v ≡ fa
     item-there : (l m : ℕ) → l < h .lines → m < itemCount h t l → firstItem h t l + m < h .items
     item-there l m a b = omega (arith, first lineSection l items-shared a, owned h t lineSection items-shared l m a b)
 
-    pub picture-in : rule9 v h t chars ≡ true → (g k m : ℕ) → g < h .groups → k < lineCount h t g → m < itemCount h t (firstLine h t g + k)
-        → PictureIn h (itemOf h t (firstItem h t (firstLine h t g + k) + m))
-    picture-in e g k m a b c = item-pictured e (firstItem h t (firstLine h t g + k) + m) (item-there (firstLine h t g + k) m (line-there g k a b) c)
+    module _ (e : rule9 v h t chars ≡ true) (g k m : ℕ) (a : g < h .groups) (b : k < lineCount h t g) (c : m < itemCount h t (firstLine h t g + k)) where
+      abbrev i : ℕ
+      i = firstItem h t (firstLine h t g + k) + m
+
+      pub pictured : eqb (itemOf h t i .picture) noPicture ≡ false → Pictured h t chars i
+      pictured p = item-pictured i p e (item-there (firstLine h t g + k) m (line-there g k a b) c)
+
+      pub picture-in : PictureIn h (itemOf h t i)
+      picture-in p = inside i p (pictured p)
