@@ -40,7 +40,8 @@ use Rattle.every_call.proofs.Shows.{Shows, first-shows, later-shows, last-shows
 use Rattle.every_call.proofs.Rules.{fresh-stands, begun-stands, first-laid, first-stands, running-page, later-laid, later-stands, last-laid, last-stands}
 use Rattle.report.specs.Calls as calls
 use Rattle.book.specs.Book.{Call, initiate, generate, terminate, Book, freshPos, freshBook, dueFor, enter}
-use Rattle.book.specs.Sheet.{sheetOf}
+use Rattle.printed.specs.Sheet.{records}
+use Rattle.book.specs.Sheet.{dueLines, sheetOf}
 use Rattle.book.specs.Demand.{answer, reads}
 use Rattle.book.proofs.Moves.{moves-none}
 use Rattle.book.proofs.Step.{Ok, refused-ok, settled-ok}
@@ -77,7 +78,7 @@ module _ (d : List ℕ) (accepts : checked d ≡ Accepted) (A : facts.Accepted (
     idle-climb e = let f = idle-facts h t s e (T .stands .rules) in rw (T .place) (omega (arith, f .last, f .onPage, A .pageFits .page999))
 
     initiate-ok : s .phase ≡ idle → Ok d Tracks s b initiate (reads d s initiate) (begun out)
-    unfolding enter sheetOf
+    unfolding enter dueLines records
     initiate-ok e = record {
       fine = inl refl;
       bytes = refl;
@@ -123,7 +124,7 @@ module _ (d : List ℕ) (accepts : checked d ≡ Accepted) (A : facts.Accepted (
 
     -- ---- TERMINATE
     started-ends : s .phase ≡ started → Ok d Tracks s b terminate (reads d s terminate) (ended out)
-    unfolding enter sheetOf
+    unfolding enter dueLines records
     started-ends e =
         let fresh = started-facts h t s (T .stands .sized) e (T .stands .rules) in
         let none-left = T .begins e in

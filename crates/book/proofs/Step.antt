@@ -31,7 +31,8 @@ use Rattle.work.specs.Work.{Work, moved, settled}
 use Rattle.every_call.proofs.Settles.{linesPrinted, each-settled}
 use Rattle.every_call.proofs.Shows.{Shows}
 use Rattle.book.specs.Book.{Call, Book, dueFor, turned, enter}
-use Rattle.book.specs.Sheet.{sheetOf}
+use Rattle.printed.specs.Sheet.{records}
+use Rattle.book.specs.Sheet.{dueLines, sheetOf}
 use Rattle.book.specs.Demand.{taken}
 use Rattle.book.proofs.Bytes.{sheet-same}
 use Rattle.book.proofs.Moves.{Moves, moves-none, walk-pages, walk-moves}
@@ -60,7 +61,7 @@ module _ (d : List ℕ) where
   module _ (Inv : State → Book → Type 0) (b : Book) (c : Call) (reading : Reading) (s : State) (out : List ℕ) (inv : Inv s b) where
     -- a refusal changes nothing
     pub refused-ok : (v : Verdict) → 3 ≤ number v → number v ≤ 9 → Ok Inv s b c reading (refuse s out v)
-    unfolding enter sheetOf
+    unfolding enter dueLines records
     refused-ok v l m =
         let e : eqb (number v) 0 ≡ false = ne-eqb (number v) 0 (λ z. omega arith) in
         record {

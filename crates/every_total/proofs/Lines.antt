@@ -16,17 +16,18 @@ use Rattle.tables.specs.declared.Item.{Item}
 use Rattle.tables.specs.Table.{counterGroup, firstLine, lineCount, firstItem, itemCount, itemKind, itemIndex, itemOf}
 use Rattle.items.specs.Sources.{sumItemOk, sourceOk, shownOk}
 use Rattle.items.specs.Items.{itemOk, lineItemsOk, ownLineOk, groupItemsOk, ruleD7}
-use Rattle.printed.specs.Printed.{printed, blanks}
+use Rattle.printed.specs.Printed.{blanks}
+use Rattle.printed.specs.Sheet.{records}
 use Rattle.item_text.specs.declared.View.{View}
 use Rattle.item_text.specs.Items.{Inputs, sourceText, itemText, atColumn, onLine}
 use Rattle.line_text.specs.Facts.{ItemIn, ItemsIn}
-use Rattle.line_text.specs.Lines.{withOwn, lineText, lineBytes}
+use Rattle.line_text.specs.Lines.{withOwn, lineText}
 use Rattle.layout.specs.Layout.{Due}
 use Rattle.layout.specs.Lines.{linesFrom, linesOf}
 use Rattle.due_text.specs.Bytes.{Reading, reading, inputsOf, viewOf}
 use Rattle.due_text.proofs.Bytes.{GroupsIn, none, more}
 use Rattle.every_total.proofs.Dues.{Each, none, more}
-use Rattle.book.specs.Sheet.{recordsFrom, sheetOf}
+use Rattle.book.specs.Sheet.{ownLines, dueLines, sheetOf}
 
 module _ (h : Head) (t chars : List ℕ) (d7 : ruleD7 h t chars ≡ true) where
   item-ok : (g k m : ℕ) → g < h .groups → k < lineCount h t g → m < itemCount h t (firstLine h t g + k) → itemOk h t g (firstLine h t g + k) m ≡ true
@@ -66,25 +67,27 @@ module _ (h : Head) (t chars : List ℕ) (d7 : ruleD7 h t chars ≡ true) where
         rw (e0, e1, e2, e3, f (omega (arith, I .kind))) refl))))
 
     module _ (g : ℕ) (l : g < h .groups) (own : (k : ℕ) → k < h .counters → counterGroup h t k ≡ g → Agrees k) where
-      line-same : (v : View) (i : ℕ) → i < lineCount h t g → lineBytes h t (inputsOf rd) v (firstLine h t g + i) ≡ lineBytes h t (inputsOf other) v (firstLine h t g + i)
-      unfolding lineText lineBytes
+      line-same : (v : View) (i : ℕ) → i < lineCount h t g → lineText h t (inputsOf rd) v (firstLine h t g + i) ≡ lineText h t (inputsOf other) v (firstLine h t g + i)
+      unfolding lineText
       line-same v i m =
           let n = firstLine h t g + i in
-          ap (printed _ _ _ (h .width))
-          (fold-same (withOwn h t (inputsOf rd) v n) (withOwn h t (inputsOf other) v n) (itemCount h t n)
+          fold-same (withOwn h t (inputsOf rd) v n) (withOwn h t (inputsOf other) v n) (itemCount h t n)
           (λ j q text. ap (λ (s : List ℕ). atColumn (itemOf h t (firstItem h t n + j)) s text)
           (item-same v (itemOf h t (firstItem h t n + j)) (items .each g i j l m q)
           (λ e. let o = sum-own g i j l m q e in let k = itemIndex h t (firstItem h t n + j) in own k (ltb-true k (h .counters) (and-l (ltb k (h .counters)) (eqb (counterGroup h t k) g) o)) (eqb-true (counterGroup h t k) g (and-r (ltb k (h .counters)) (eqb (counterGroup h t k) g) o)))))
-          blanks)
+          blanks
 
     lines-same : (u : Due) → u .group < h .groups → ((k : ℕ) → k < h .counters → counterGroup h t k ≡ u .group → Agrees k) → (n k : ℕ) → k + n ≤ lineCount h t (u .group)
-        → recordsFrom h t rd u (linesFrom h t (u .group) (u .at) n k) k ≡ recordsFrom h t other u (linesFrom h t (u .group) (u .at) n k) k
-    unfolding recordsFrom linesFrom
+        → ownLines h t rd u (linesFrom h t (u .group) (u .at) n k) k ≡ ownLines h t other u (linesFrom h t (u .group) (u .at) n k) k
+    unfolding ownLines linesFrom
     lines-same u l own zero k b = refl
     lines-same u l own (suc n) k b = rw (line-same (u .group) l own (onLine (viewOf rd u) _) k (omega arith), lines-same u l own n (k + 1) (omega arith)) refl
 
     -- the lines of groups due whose counters agree
+    dues-same : {us : List Due} → GroupsIn h us → Each (λ g. (k : ℕ) → k < h .counters → counterGroup h t k ≡ g → Agrees k) us → dueLines h t rd us ≡ dueLines h t other us
+    unfolding dueLines linesOf
+    dues-same none none = refl
+    dues-same (more {u} g i) (more a b) = rw (lines-same u g a (lineCount h t (u .group)) 0 (omega arith), dues-same i b) refl
+
     pub sheet-same : {us : List Due} → GroupsIn h us → Each (λ g. (k : ℕ) → k < h .counters → counterGroup h t k ≡ g → Agrees k) us → sheetOf h t rd us ≡ sheetOf h t other us
-    unfolding sheetOf linesOf
-    sheet-same none none = refl
-    sheet-same (more {u} g i) (more a b) = rw (lines-same u g a (lineCount h t (u .group)) 0 (omega arith), sheet-same i b) refl
+    sheet-same i a = ap (records (rd .prefix) (h .width)) (dues-same i a)

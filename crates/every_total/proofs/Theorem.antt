@@ -30,7 +30,8 @@ use Rattle.layout.specs.Layout.{Due}
 use Rattle.state.specs.declared.State.{State}
 use Rattle.state.specs.State.{idle, freshAt}
 use Rattle.book.specs.Book.{Call, initiate, generate, terminate, Book, freshBook, dueFor, enter, book}
-use Rattle.book.specs.Sheet.{sheetOf}
+use Rattle.printed.specs.Sheet.{records}
+use Rattle.book.specs.Sheet.{dueLines, sheetOf}
 use Rattle.book.specs.Demand.{Use, Done, did, run, taken, events, due, printed, bookOf}
 use Rattle.book.proofs.Calls.{Tracks, call-ok, fresh-tracks}
 use Rattle.book.proofs.Theorem.{demand3}
@@ -78,7 +79,7 @@ module _ (d : List ℕ) (accepts : checked d ≡ Accepted) (p : plain (headOf d)
   -- of one call
   lines-by : (b : Book) (rows : List Row) (x : Done d) → lastOf rows ≡ b .row → Explains d rows x → (y : Bool) → taken d (x .result) ≡ y
       → sheetOf h t (x .reading) (enter h t b (x .call) y .dues) ≡ sheetOf h t (explaining d rows (x .reading)) (enter h t b (x .call) y .dues)
-  unfolding enter sheetOf
+  unfolding enter dueLines records
   lines-by b rows x e f true q =
       rw (← e)
       (sheet-same h t (characters d) d7 (A .itemsIn) (x .reading) (totalsBy d rows) (groups-in rows (x .call) (b .pos))

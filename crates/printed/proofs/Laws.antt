@@ -1,7 +1,7 @@
--- Laws of the printed record and the line buffer: lengths, and page and line as one number. Assumes nothing.
-use mathlib.Core.Path.{_≡_, sym, ap, _∙_}
+-- Laws of the printed record, of records one behind the other and of the line buffer: lengths, and page and line as one number. Assumes nothing.
+use mathlib.Core.Path.{_≡_, refl, sym, ap, _∙_}
 use Prim.Native.Nat.{ℕ, _+_, _*_, _/_, _%_, _≤_}
-use mathlib.Core.List.{List, _++_}
+use mathlib.Core.List.{List, [], _∷_, _++_, append-assoc}
 use native.Mathlib.Omega.{arith}
 use lib.ListN.{length, take, length-append, length-replicate}
 use lib.Seq.{length-take-le}
@@ -9,6 +9,7 @@ use Rattle.digits.proofs.Laws.{length-digits, digits-join, digits-last}
 use Rattle.figures.specs.Number.{digits}
 use Rattle.printed.specs.declared.Prefix.{Prefix}
 use Rattle.printed.specs.Printed.{inFront, noPrefix, Short, numbered, printed, recordSize, blanks}
+use Rattle.printed.specs.Sheet.{Line, records}
 
 -- the six digits of the page and the three of the line are the nine of one number
 pub digits-page-line : (page line : ℕ) → digits 9 (page % 1000000 * 1000 + line % 1000) ≡ digits 6 page ++ digits 3 line
@@ -39,3 +40,11 @@ no-prefix-short = record { size = length-replicate {A = ℕ} 2 0; few = omega ar
 pub length-blanks : length blanks ≡ 132
 unfolding blanks
 length-blanks = length-replicate {A = ℕ} 132 32
+
+-- the records of lines behind other lines
+pub records-append : (p : Prefix) (w : ℕ) (xs ys : List Line) → records p w (xs ++ ys) ≡ records p w xs ++ records p w ys
+unfolding records
+records-append p w [] ys = refl
+records-append p w (x ∷ xs) ys =
+    let r = printed p (x .page) (x .line) w (x .text) in
+    ap (λ (s : List ℕ). r ++ s) (records-append p w xs ys) ∙ sym (append-assoc r (records p w xs) (records p w ys))

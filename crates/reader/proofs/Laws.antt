@@ -54,9 +54,12 @@ module _ (bytes : List ℕ) (at w : ℕ) (e : wellFormed bytes at w ≡ true) wh
   unfolding wellFormed
   whole = leb-true _ _ (and-l (leb (at + recordBytes w) (length bytes)) _ e)
 
-  pub well-formed-has : Formed w (drop at bytes)
+  pub is-formed : formed w (drop at bytes) ≡ true
   unfolding wellFormed
-  well-formed-has = formed-has w (drop at bytes) (and-r (leb (at + recordBytes w) (length bytes)) _ e)
+  is-formed = and-r (leb (at + recordBytes w) (length bytes)) _ e
+
+  pub well-formed-has : Formed w (drop at bytes)
+  well-formed-has = formed-has w (drop at bytes) is-formed
 
   pub numbered : Numbered (drop at bytes)
   numbered = record { long = simp length-drop (omega (arith, whole)); page = well-formed-has .page; line = well-formed-has .line }

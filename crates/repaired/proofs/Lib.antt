@@ -1,0 +1,3 @@
+-- Laws of the repair.
+pub mod Keeps
+pub mod Kept
