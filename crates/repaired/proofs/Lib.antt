@@ -1,0 +1,4 @@
+-- Laws of the repair tool.
+pub mod Fates
+pub mod Mends
+pub mod Room
