@@ -2,3 +2,5 @@
 pub mod Fates
 pub mod Mends
 pub mod Room
+pub mod Blocks
+pub mod Parts
