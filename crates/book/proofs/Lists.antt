@@ -118,6 +118,10 @@ module _ (d : List ℕ) (accepts : checked d ≡ Accepted) (A : facts.Accepted (
   from-start : (r : ℕ) → Before (freshAt idle) freshBook r (noGroup h) (noGroup h)
   from-start r = record { going = λ e. inl refl; coming = λ l. (refl, refl) }
 
+  -- pages and lines of one report rise from call to call; reports are numbered
+  pub climbs : (us : List Use) → (top : ℕ) × Climb (rankB freshBook) (spotsIn h t (book h t freshBook (events d (run d (freshAt idle) us)))) top
+  climbs us = let m = holds us (freshAt idle) freshBook (fresh-tracks d accepts A) in (m .top, m .climb)
+
   pub demand3 : (us : List Use) → Demand3 d (run d (freshAt idle) us)
   demand3 us =
       let m = holds us (freshAt idle) freshBook (fresh-tracks d accepts A) in

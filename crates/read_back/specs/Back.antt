@@ -9,7 +9,7 @@ use Rattle.printed.specs.Printed.{noPrefix}
 use Rattle.printed.specs.Sheet.{Line, records}
 use Rattle.reader.specs.Sheet.{Legible, Reads}
 use Rattle.repaired.specs.Repair.{repairedOf}
-use Rattle.repaired.specs.Claims.{rising, droppedOf}
+use Rattle.repaired.specs.Kept.{rising, droppedOf}
 use Rattle.book.specs.Book.{spotsIn}
 use Rattle.book.specs.Demand.{Done, printed, bookOf}
 use Rattle.read_back.specs.Written.{written}

@@ -1,4 +1,5 @@
 -- The lines that a list of calls prints, as demand 3's book has them. Assumes nothing: these are definitions.
+use Prim.Native.Nat.{ℕ}
 use mathlib.Core.List.{List, [], _∷_, _++_}
 use Rattle.unpacked.specs.Head.{headOf}
 use Rattle.unpacked.specs.Table.{table}
