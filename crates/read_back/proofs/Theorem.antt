@@ -30,6 +30,7 @@ use Rattle.printed.specs.Sheet.{Line, records}
 use Rattle.printed.proofs.Laws.{records-append}
 use Rattle.reader.specs.Sheet.{Legible, Reads}
 use Rattle.reader.proofs.Sheets.{reads-sheet}
+use Rattle.walker.proofs.Laws.{reads-walks}
 use Rattle.repaired.specs.Repair.{repairedOf}
 use Rattle.repaired.specs.Kept.{rising, droppedOf}
 use Rattle.repaired.proofs.Keeps.{repaired-lines, kept-whole}
@@ -204,10 +205,12 @@ module _ (d : List ℕ) (accepts : checked d ≡ Accepted) (A : facts.Accepted (
       let m = holds us (freshAt idle) freshBook (fresh-tracks d accepts A) in
       let c = climbs d accepts A us in
       let e : printed d xs ≡ records noPrefix (h .width) lines = demand3 d accepts us .bytes ∙ m .bytes in
+      let read : Reads (printed d xs) 0 (h .width) lines = subst (λ (b : List ℕ). Reads b 0 (h .width) lines) (sym e) (reads-sheet (h .width) (A .width1) (A .width132) lines (m .legible)) in
       record {
         bytes = e;
         legible = m .legible;
-        reads = subst (λ (b : List ℕ). Reads b 0 (h .width) lines) (sym e) (reads-sheet (h .width) (A .width1) (A .width132) lines (m .legible));
+        reads = read;
+        walks = λ k a b c. reads-walks k lines (rw (a, b, c) read);
         whole = λ r one. subst (λ (b : List ℕ). (repairedOf b (h .width) .copy ≡ b) × (repairedOf b (h .width) .list ≡ [])) (sym e)
             (kept-whole (h .width) (A .width1) (A .width132) lines (m .legible) (in-order (h .width) r (spotsIn h t (bookOf d xs)) lines _ (c .0) one (m .matched) (m .legible) (c .1)));
         several = subst (λ (b : List ℕ). (repairedOf b (h .width) .copy ≡ records noPrefix (h .width) (rising lines)) × (repairedOf b (h .width) .list ≡ droppedOf (h .width) lines)) (sym e)

@@ -2,12 +2,15 @@
 use Prim.Native.Nat.{ℕ}
 use mathlib.Core.Path.{_≡_}
 use mathlib.Core.List.{List, []}
+use denote.Ref.{now}
 use Rattle.counts.specs.All.{All}
 use Rattle.unpacked.specs.Head.{headOf}
 use Rattle.unpacked.specs.Table.{table}
 use Rattle.printed.specs.Printed.{noPrefix}
 use Rattle.printed.specs.Sheet.{Line, records}
 use Rattle.reader.specs.Sheet.{Legible, Reads}
+use Rattle.walker.specs.declared.Walker.{Walker}
+use Rattle.walker.specs.Walk.{Walks}
 use Rattle.repaired.specs.Repair.{repairedOf}
 use Rattle.repaired.specs.Kept.{rising, droppedOf}
 use Rattle.book.specs.Book.{spotsIn}
@@ -34,6 +37,8 @@ module _ (d : List ℕ) where
     pub legible : All (Legible width) (linesOf xs)
     -- "reading what the report writer wrote returns what was written"
     pub reads : Reads (printed d xs) 0 width (linesOf xs)
+    -- and so does a walker at its start
+    pub walks : (k : Walker) → now (k .sheet) ≡ printed d xs → k .at ≡ 0 → k .w ≡ width → Walks k (linesOf xs)
     -- "On the undamaged file of one report it keeps everything and lists nothing"
     pub whole : (r : ℕ) → OneReport r xs → (repairedOf (printed d xs) width .copy ≡ printed d xs) × (repairedOf (printed d xs) width .list ≡ [])
     -- of a file of several reports, each of which starts at page 1 again, those lines that have a later page, or a later line on the same page, than the
