@@ -9,8 +9,12 @@
 //!
 //! For R-7 it draws `two_case`s, whose `Interleaving` gives `TwoStep`s in the same way; `Interleaved::run` plays them with
 //! the second program and each agent's calls once more alone.
+//!
+//! For R-8 it draws a `sheets::sheet` or a `sheets::one_report`, a printed sheet with its W, and makes copies of it by
+//! `damage::damaged`, or `wet_case`s of both; `Wet::run` reads and repairs them with the second program.
 
 mod broken;
+pub mod damage;
 mod draft;
 mod explained;
 mod features;
@@ -23,6 +27,7 @@ mod rows;
 mod rule_9;
 mod sample;
 mod sequence;
+pub mod sheets;
 mod shown;
 mod signs;
 mod states;
@@ -30,6 +35,7 @@ mod summing;
 mod tally;
 mod valid;
 mod walk;
+mod wet;
 
 pub use draft::{Block, Count, Draft, Page, Row};
 pub use explained::{explained_case, summing_description, Explained};
@@ -40,6 +46,7 @@ pub use rng::Rng;
 pub use sample::{damaged, sample, Sample};
 pub use sequence::{pattern, Call, Expect, Sequence, Step};
 pub use tally::Tally;
+pub use wet::{wet_case, Wet, WetCase};
 
 use crate::description::check;
 use crate::report::{self, Answer};
@@ -111,26 +118,29 @@ pub fn play(desc: &[u8], step: &Step) -> (Answer, Vec<u8>) {
 
 const HELP: &str = "second cases: random cases against the second program
 
-  second cases [--seed N] [--descriptions N] [--calls N] [--footings N] [--two-calls N] [--all]
+  second cases [--seed N] [--descriptions N] [--calls N] [--footings N] [--two-calls N] [--files N] [--all]
   second cases --case N
   second cases --explained-case N
   second cases --two-case N
+  second cases --wet-case N
 
   --seed N          where chance begins (1)
   --descriptions N  how many descriptions CHECK gets (50000)
   --calls N         how many calls are made after that, at least (100000)
   --footings N      how many footings are then explained from the rows (R-6), at least (100000)
   --two-calls N     how many calls of two agents are then made (R-7), at least (100000)
+  --files N         how many printed sheets and damaged copies are then read and repaired (R-8), at least (20000)
   --all             list every feature with its count
   --case N          show one case: its description, its calls and their answers
   --explained-case N  the same of a case of R-6
   --two-case N      the same of a case of R-7
+  --wet-case N      a case of R-8: its files, and what is kept of each
 
 Prints how often each rule and refusal was reached. Ends with 1 where one was not reached, where a
 clause of rule 9 or a feature of pictures was not reached 100 times, one of signs 100 or 25 times, one of
-R-6 or R-7 15 to 10000 times, where an answer was not what any implementation must give, where a sum was
-not as explained under a description that keeps R-6's condition, or where one of two agents was not
-answered as it is alone; else with 0.
+R-6, R-7 or R-8 15 to 10000 times, where an answer was not what any implementation must give, where a sum
+was not as explained under a description that keeps R-6's condition, where one of two agents was not
+answered as it is alone, or where a sheet was not read or repaired as R-8 says; else with 0.
 ";
 
 #[derive(Clone, Debug)]
@@ -140,9 +150,11 @@ struct Amounts {
     calls: usize,
     footings: u64,
     two_calls: u64,
+    files: u64,
     all: bool,
     case: Option<Case>,
     two_case: Option<TwoCase>,
+    wet_case: Option<WetCase>,
 }
 
 impl Amounts {
@@ -154,9 +166,11 @@ impl Amounts {
             calls: 100_000,
             footings: 100_000,
             two_calls: 100_000,
+            files: 20_000,
             all: false,
             case: None,
             two_case: None,
+            wet_case: None,
         }
     }
 }
@@ -170,6 +184,7 @@ pub fn main(args: &[String]) -> i32 {
     match read_args(args) {
         Ok(Amounts { case: Some(case), .. }) => show_case(case),
         Ok(Amounts { two_case: Some(case), .. }) => interleaved::show_case(case),
+        Ok(Amounts { wet_case: Some(case), .. }) => wet::show_case(&case),
         Ok(amounts) => run_and_report(amounts),
         Err(wrong) => {
             eprintln!("second cases: {wrong}; --help tells more");
@@ -194,9 +209,11 @@ fn read_args(args: &[String]) -> Result<Amounts, String> {
             "--calls" => amounts.calls = value().ok_or_else(wanted)? as usize,
             "--footings" => amounts.footings = value().ok_or_else(wanted)?,
             "--two-calls" => amounts.two_calls = value().ok_or_else(wanted)?,
+            "--files" => amounts.files = value().ok_or_else(wanted)?,
             "--case" => amounts.case = Some(case(value().ok_or_else(wanted)?)),
             "--explained-case" => amounts.case = Some(explained_case(value().ok_or_else(wanted)?)),
             "--two-case" => amounts.two_case = Some(two_case(value().ok_or_else(wanted)?)),
+            "--wet-case" => amounts.wet_case = Some(wet_case(value().ok_or_else(wanted)?)),
             _ => return Err(format!("{name} is unknown")),
         }
     }
@@ -209,13 +226,15 @@ fn run_and_report(amounts: Amounts) -> i32 {
     eprintln!("{} footings explained", explained.footings);
     let interleaved = Interleaved::run(amounts.seed, amounts.two_calls);
     eprintln!("{} calls of two agents", interleaved.calls);
+    let wet = Wet::run(amounts.seed, amounts.files);
+    eprintln!("{} files read back and repaired", wet.files());
     print!("{}{}", run.tally.report(amounts.all), explained.report(amounts.all));
-    print!("{}", interleaved.report(amounts.all));
-    let missing = [run.tally.missing(), explained.missing(), interleaved.missing()].concat();
+    print!("{}{}", interleaved.report(amounts.all), wet.report(amounts.all));
+    let missing = [run.tally.missing(), explained.missing(), interleaved.missing(), wet.missing()].concat();
     for name in &missing {
         println!("NOT REACHED: {name}");
     }
-    let wrong = [run.wrong, explained.wrong, interleaved.wrong].concat();
+    let wrong = [run.wrong, explained.wrong, interleaved.wrong, wet.wrong].concat();
     for line in &wrong {
         println!("WRONG: {line}");
     }

@@ -1,12 +1,13 @@
-//! The second program: document 01, and requests of document 02, implemented plainly, to compare
+//! The second program: document 01, and requests of document 02, implemented plainly, to compare
 //! with the first.
 //!
 //! description bytes -> `description` -> tables; state -> `state` -> rules; a call -> `report`:
 //! which groups are due (`turns`), where they land (`place`), what they print (`print`). `feeder` makes calls of bytes cut
-//! anywhere. `two` prints two reports into one output. `explain` finds totals again from the rows.
+//! anywhere. `two` prints two reports into one output. `explain` finds totals again from the rows. `read` reads a
+//! printed sheet back, `repair` mends a damaged one.
 //!
 //! Each module uses only those before it in this order (`tests/modules.rs`): layout, tables, picture, starts, description,
-//! record, state, sums, turns, place, print, report, explain, feeder, two, builder, source, cases.
+//! record, state, sums, turns, place, print, report, explain, feeder, two, read, repair, builder, source, cases.
 
 pub mod builder;
 pub mod cases;
@@ -17,7 +18,9 @@ pub mod layout;
 pub mod picture;
 pub mod place;
 pub mod print;
+pub mod read;
 pub mod record;
+pub mod repair;
 pub mod report;
 pub mod source;
 pub mod starts;

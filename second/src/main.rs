@@ -7,13 +7,15 @@ use std::process::exit;
 use second::description::{Item, SUM};
 use second::explain::{self, Explainer, Explanation};
 use second::feeder::{self, Feeder, LONGEST_CHUNK};
+use second::read::{Read as ReadBack, Refusal, Walker};
+use second::repair::{repaired, Dropped, FORM};
 use second::report::{generate, initiate, terminate, Answer, Call};
 use second::state::State;
 use second::two::{self, TwoAgents, CODE_BYTES};
 use second::{cases, description, source};
 
 const USAGE: &str = "\
-second: document 01, and R-1, R-2 and R-4 to R-7 of document 02, a second time, on its own
+second: document 01, and R-1, R-2 and R-4 to R-8 of document 02, a second time, on its own
 
 usage: second COMMAND ...
 
@@ -25,6 +27,9 @@ usage: second COMMAND ...
   second two DESCRIPTION CODE1 RECORDS1 CODE2 RECORDS2 [--order LIST] [-o OUT]
                                               prints the sheets of two agents into one file
   second apart WIDTH FILE CODE [-o OUT]       takes the sheet of one code out of such a file
+  second read WIDTH SHEET                     reads a printed sheet back, record by record
+  second repair WIDTH SHEET [-o OUT] [-l LIST]
+                                              drops the records of a damaged sheet that are out of form or order
   second build SOURCE OUT                     makes a description from its text source
   second cases ...                            random cases
 
@@ -83,6 +88,22 @@ print` gives it. WIDTH is the description's W, 1 to 132, so that a line of the f
 behind the last whole line is left out.
 ";
 
+const READ_USAGE: &str = "\
+usage: second read WIDTH SHEET
+
+Reads a printed sheet back (R-8), without codes: one line a record, with its page, its line and its WIDTH characters of
+text. A record that is not well-formed ends the run with refusal 12 and its offset; what was read before it stands.
+";
+
+const REPAIR_USAGE: &str = "\
+usage: second repair WIDTH SHEET [-o OUT] [-l LIST]
+
+Looks at each WIDTH + 10 bytes of a printed sheet (R-8) and keeps the records that are well-formed and on a later page, or
+on a later line of the same page, than the last one kept. These go to standard output or to OUT. Each dropped one is told
+on standard error, with its offset and whether it is out of form or out of order, and LIST gets 9 bytes of it: the offset
+in 8, low byte first, then 1 for form or 2 for order. Exit code 0 where nothing was dropped, else 1.
+";
+
 const BUILD_USAGE: &str = "\
 usage: second build SOURCE OUT
 
@@ -112,6 +133,8 @@ fn main() {
         Some("explain") => explain(args_of_command),
         Some("two") => two(args_of_command),
         Some("apart") => apart(args_of_command),
+        Some("read") => read_back(args_of_command),
+        Some("repair") => repair(args_of_command),
         Some("build") => build(args_of_command),
         _ => Err(Failure::Usage(USAGE)),
     };
@@ -672,4 +695,79 @@ fn apart(args: &[String]) -> Result<(), Failure> {
 /// D2: "W 1 to 132".
 fn line_width(word: &str) -> Option<usize> {
     word.parse().ok().filter(|width| (1..=132).contains(width))
+}
+
+fn read_back(args: &[String]) -> Result<(), Failure> {
+    if wants_help(args) {
+        return show(READ_USAGE);
+    }
+    let [width, name] = args else {
+        return Err(Failure::Usage(READ_USAGE));
+    };
+    let width = width.parse().map_err(|_| Failure::Usage(READ_USAGE))?;
+    let sheet = Whole::read(name)?;
+    with_output(None, |output| read_records(&sheet, width, output))
+}
+
+/// Each record in a line; any W goes in, for the reader refuses those outside 1 to 132.
+fn read_records(sheet: &Whole, width: usize, output: &mut Output) -> Result<(), Failure> {
+    let mut walker = Walker::new(&sheet.bytes, width);
+    loop {
+        let read = walker.step().map_err(|refusal| bad_sheet(sheet, refusal, walker.place()))?;
+        let ReadBack::Record(record) = read else { return Ok(()) };
+        output.write(format!("{} {} ", record.page, record.line).as_bytes())?;
+        output.write(walker.text(&record))?;
+        output.write(b"\n")?;
+    }
+}
+
+fn bad_sheet(sheet: &Whole, refusal: Refusal, offset: usize) -> Failure {
+    let Refusal { number, extra } = refusal;
+    sheet.failed(&format!("reading at offset {offset} refused: refusal {number}, extra number {extra}"))
+}
+
+fn repair(args: &[String]) -> Result<(), Failure> {
+    if wants_help(args) {
+        return show(REPAIR_USAGE);
+    }
+    let (mut names, mut out, mut list) = (Vec::new(), None, None);
+    let mut words = args.iter().map(String::as_str);
+    while let Some(word) = words.next() {
+        match word {
+            "-o" => out = Some(words.next().ok_or(Failure::Usage(REPAIR_USAGE))?),
+            "-l" => list = Some(words.next().ok_or(Failure::Usage(REPAIR_USAGE))?),
+            _ => names.push(word),
+        }
+    }
+    let [width, name] = names[..] else {
+        return Err(Failure::Usage(REPAIR_USAGE));
+    };
+    let width = width.parse().map_err(|_| Failure::Usage(REPAIR_USAGE))?;
+    repair_sheet(&Whole::read(name)?, width, out, list)
+}
+
+/// Writes the copy and the list, then tells the drops.
+fn repair_sheet(sheet: &Whole, width: usize, out: Option<&str>, list: Option<&str>) -> Result<(), Failure> {
+    let repaired = repaired(&sheet.bytes, width).map_err(|Refusal { number, extra }| {
+        sheet.failed(&format!("repair refused: refusal {number}, extra number {extra}"))
+    })?;
+    with_output(out, |output| output.write(&repaired.copy))?;
+    if let Some(list) = list {
+        std::fs::write(list, repaired.list()).map_err(|error| failed(list, error))?;
+    }
+    told_drops(sheet, &repaired.dropped)
+}
+
+/// A line for each dropped record, then their count; nothing where none is.
+fn told_drops(sheet: &Whole, dropped: &[Dropped]) -> Result<(), Failure> {
+    for Dropped { offset, reason } in dropped {
+        let why = if *reason == FORM { "form" } else { "order" };
+        eprintln!("second: {}: dropped at offset {offset}: out of {why}", sheet.name);
+    }
+    if dropped.is_empty() {
+        return Ok(());
+    }
+    let form = dropped.iter().filter(|dropped| dropped.reason == FORM).count();
+    let order = dropped.len() - form;
+    Err(sheet.failed(&format!("{} dropped: {form} out of form, {order} out of order", dropped.len())))
 }

@@ -75,6 +75,8 @@ fn help_is_given() {
         &["explain", "--help"],
         &["two", "--help"],
         &["apart", "-h"],
+        &["read", "--help"],
+        &["repair", "--help"],
         &["build", "--help"],
     ] {
         let (code, out, error) = run(&path, args);
@@ -127,6 +129,19 @@ fn bad_usage_is_one_line_and_code_2() {
         &["apart", "W", "r", "A1", "-o", "x"],
         &["apart", "12", "r", "A", "-o", "x"],
         &["apart", "12", "r", "A11", "-o", "x"],
+        &["read"],
+        &["read", "12"],
+        &["read", "12", "r", "x"],
+        &["read", "W", "r"],
+        &["read", "-1", "r"],
+        &["read", "", "r"],
+        &["repair"],
+        &["repair", "12"],
+        &["repair", "12", "r", "x"],
+        &["repair", "12", "r", "-o"],
+        &["repair", "12", "r", "-o", "x", "-l"],
+        &["repair", "W", "r", "-o", "x"],
+        &["repair", "-1", "r", "-l", "x"],
         &["build"],
         &["build", "d"],
         &["build", "d", "x", "y"],
@@ -479,6 +494,94 @@ fn what_was_printed_before_a_refused_row_of_two_stands() {
     std::fs::write(path.join("many"), b"+99999999999999999".repeat(6)).unwrap();
     let words = "TERMINATE after row 6 of agent 2 refused: refusal 7, extra number 0";
     fails(&path, &["two", "large", "A1", "few", "B2", "many"], 1, words);
+}
+
+// ---- a sheet read back and repaired (R-8)
+
+/// What `second read` prints of the whole run's sheet, the blanks of the text shown as dots.
+const READ_BACK: &str = "\
+1 1 PAGE..1.....
+1 3 AA......5...
+1 4 ........7...
+1 5 SUM....12...
+1 6 BB.....-2...
+2 1 PAGE..2.....
+2 3 BB......9...
+2 4 SUM.....7...
+";
+
+/// A directory with the whole run's sheet in the file `sheet`, the same damaged in `wet`, and an empty file `empty`: line 4
+/// has a byte 31, the line of page 1, line 6 stands behind it again, and half a record is at the end.
+fn wet_directory(test: &str) -> PathBuf {
+    let path = whole_run_directory(test);
+    let sheet = sheet_bytes(WHOLE_RUN_SHEET);
+    let mut wet = [&sheet[..110], &sheet[88..], &sheet[..11]].concat();
+    wet[44 + 10] = 31;
+    std::fs::write(path.join("sheet"), sheet).unwrap();
+    std::fs::write(path.join("wet"), wet).unwrap();
+    path
+}
+
+#[test]
+fn read_gives_page_line_and_text() {
+    let path = wet_directory("read");
+    assert_eq!(run(&path, &["read", "12", "sheet"]), (0, sheet_bytes(READ_BACK), String::new()));
+    assert_eq!(run(&path, &["read", "12", "empty"]), (0, Vec::new(), String::new()));
+    let words = "second: wet: reading at offset 44 refused: refusal 12, extra number 44";
+    let before: String = READ_BACK.split_inclusive('\n').take(2).collect();
+    fails_after(&path, &["read", "12", "wet"], 1, &sheet_bytes(&before), words);
+    let words = "second: sheet: reading at offset 0 refused: refusal 12, extra number 0";
+    for width in ["0", "133", "11", "13"] {
+        fails(&path, &["read", width, "sheet"], 1, words);
+    }
+    fails(&path, &["read", "0", "empty"], 1, "refusal 12, extra number 0");
+    fails(&path, &["read", "12", "none"], 1, "second: none: ");
+}
+
+#[test]
+fn repair_of_an_undamaged_sheet_says_nothing() {
+    let path = wet_directory("repair");
+    let sheet = sheet_bytes(WHOLE_RUN_SHEET);
+    assert_eq!(run(&path, &["repair", "12", "sheet"]), (0, sheet.clone(), String::new()));
+    assert_eq!(run(&path, &["repair", "12", "empty"]), (0, Vec::new(), String::new()));
+    let args = ["repair", "12", "sheet", "-o", "out", "-l", "list"];
+    assert_eq!(run(&path, &args), (0, Vec::new(), String::new()));
+    assert_eq!(std::fs::read(path.join("out")).unwrap(), sheet);
+    assert_eq!(std::fs::read(path.join("list")).unwrap(), b"");
+}
+
+#[test]
+fn repair_tells_what_it_drops() {
+    let path = wet_directory("repair_wet");
+    let sheet = sheet_bytes(WHOLE_RUN_SHEET);
+    let kept = [&sheet[..44], &sheet[66..]].concat();
+    let told = "\
+second: wet: dropped at offset 44: out of form
+second: wet: dropped at offset 110: out of order
+second: wet: dropped at offset 198: out of form
+second: wet: 3 dropped: 2 out of form, 1 out of order
+";
+    assert_eq!(run(&path, &["repair", "12", "wet"]), (1, kept.clone(), told.to_string()));
+    let args = ["repair", "-l", "list", "12", "-o", "out", "wet"];
+    assert_eq!(run(&path, &args), (1, Vec::new(), told.to_string()));
+    assert_eq!(std::fs::read(path.join("out")).unwrap(), kept);
+    let list = [[44, 0, 0, 0, 0, 0, 0, 0, 1], [110, 0, 0, 0, 0, 0, 0, 0, 2], [198, 0, 0, 0, 0, 0, 0, 0, 1]];
+    assert_eq!(std::fs::read(path.join("list")).unwrap(), list.concat());
+    // What is repaired stays so.
+    assert_eq!(run(&path, &["repair", "12", "out"]), (0, kept, String::new()));
+}
+
+#[test]
+fn repair_without_its_files_or_a_width_says_so() {
+    let path = wet_directory("repair_files");
+    fails(&path, &["repair", "12", "none"], 1, "second: none: ");
+    fails(&path, &["repair", "12", "sheet", "-o", "no/out"], 1, "second: no/out: ");
+    fails(&path, &["repair", "12", "empty", "-l", "no/list"], 1, "second: no/list: ");
+    for width in ["0", "133"] {
+        let args = ["repair", width, "wet", "-o", "out", "-l", "list"];
+        fails(&path, &args, 1, "second: wet: repair refused: refusal 12, extra number 0");
+    }
+    assert!(!path.join("out").exists() && !path.join("list").exists());
 }
 
 #[test]

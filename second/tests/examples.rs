@@ -7,6 +7,7 @@ use std::process::Command;
 
 use common::{sheet_bytes, whole_run, Run, WHOLE_RUN_ROWS, WHOLE_RUN_SHEET};
 use second::description::check;
+use second::repair::{repaired, ORDER};
 use second::source;
 
 fn example(name: &str) -> PathBuf {
@@ -52,6 +53,22 @@ fn sheets_come_out_by_the_command() {
         assert!(output.status.success(), "{name}");
         assert!(output.stdout == bytes(&format!("{name}.sheet")), "{name}: the sheets differ");
     }
+}
+
+#[test]
+fn sheets_of_one_report_are_kept_whole_and_the_second_of_two_is_dropped() {
+    for name in EXAMPLES {
+        let width = usize::from(check(&bytes(&format!("{name}.desc"))).unwrap().w);
+        let sheet = bytes(&format!("{name}.sheet"));
+        let repaired = repaired(&sheet, width).unwrap();
+        assert!(repaired.copy == sheet && repaired.dropped.is_empty(), "{name}");
+    }
+    // The first report ends on page 3 behind 17 lines; the second has 8 on pages before that.
+    let sheet = bytes("two_reports.sheet");
+    let repaired = repaired(&sheet, 7).unwrap();
+    assert_eq!(repaired.copy, sheet[..17 * 17]);
+    let dropped: Vec<_> = repaired.dropped.iter().map(|dropped| (dropped.offset, dropped.reason)).collect();
+    assert_eq!(dropped, (17..25).map(|nth| (17 * nth, ORDER)).collect::<Vec<_>>());
 }
 
 #[test]

@@ -3,7 +3,7 @@
 use std::fs;
 use std::path::Path;
 
-const ORDER: [&str; 18] = [
+const ORDER: [&str; 20] = [
     "layout",
     "tables",
     "picture",
@@ -19,6 +19,8 @@ const ORDER: [&str; 18] = [
     "explain",
     "feeder",
     "two",
+    "read",
+    "repair",
     "builder",
     "source",
     "cases",
