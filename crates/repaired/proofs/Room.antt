@@ -26,10 +26,10 @@ dropped-most (Keep page line) = omega arith
 dropped-most Form = omega arith
 dropped-most Order = omega arith
 
--- so many blocks have nine bytes each, and the last of them no more than W + 9 behind the bytes
-blocks-least : (n w len : ℕ) → n * recordBytes w ≤ len + (w + 9) → n * 9 ≤ len + 9
-blocks-least zero w len h = omega arith
-blocks-least (suc n) w len h = omega arith
+-- nine bytes for each block: all but the last are whole, of ten bytes or more
+nine-each : (n w len : ℕ) → n * recordBytes w ≤ len + (w + 9) → n * 9 ≤ len + 9
+nine-each zero w len h = omega arith
+nine-each (suc n) w len h = omega arith
 
 module _ (front : Front) (bytes : List ℕ) (w : ℕ) where
   -- the copy is never longer than the bytes
@@ -60,7 +60,7 @@ module _ (front : Front) (bytes : List ℕ) (w : ℕ) where
   list-most =
       let n = blockCount (length bytes) w in
       let z : 0 < recordBytes w = omega arith in
-      omega (arith, list-inside n, blocks-least n w (length bytes) ((le-div-iff-mul-le z) .0 (le-refl n)))
+      omega (arith, list-inside n, nine-each n w (length bytes) ((le-div-iff-mul-le z) .0 (le-refl n)))
 
 -- room that always suffices: as many bytes as there are for the copy, and nine more for the list
 pub mendable : (front : Front) (bytes : List ℕ) (w room roomList : ℕ)
