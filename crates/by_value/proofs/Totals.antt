@@ -6,7 +6,7 @@ use mathlib.Core.List.{List}
 use borrow.Author.Tests.{eq-eqb, eqb-true}
 use lib.Dec.{eqb}
 use lib.IntN.{ℤ}
-use Rattle.counts.proofs.Laws.{by-test, fold-same}
+use Rattle.counts.proofs.Laws.{by-test, all-same, fold-same}
 use Rattle.tables.specs.Kinds.{kindNumber, addendField}
 use Rattle.tables.specs.declared.Head.{Head}
 use Rattle.tables.specs.Table.{control, final, fieldKind, firstAddend, addendCount, addendKind, addendIndex}
@@ -18,7 +18,6 @@ use Rattle.sums.specs.declared.Totals.{Totals}
 use Rattle.sums.specs.Facts.{CountersIn}
 use Rattle.sums.specs.Subtotal.{eachAddend, addField, addFields, subtotal}
 use Rattle.amounts.specs.Totals.{oldIfRefused, footings, fresh, totalsFirst, totalsLater}
-use Rattle.state.proofs.Kept.{all-same}
 use Rattle.state.specs.declared.State.{State}
 use Rattle.state.specs.State.{started, running}
 use Rattle.state_rules.specs.Rules.{freshOk, keptOk, runningOk, stateOk}

@@ -46,6 +46,12 @@ pub or-r : (a b : Bool) → (a || b) ≡ true → a ≡ false → b ≡ true
 or-r true b e f = absurd (false≢true (sym f ∙ e))
 or-r false b e f = e
 
+-- a test of every index goes by its test below the bound alone
+pub all-same : (p q : ℕ → Bool) (n : ℕ) → ((i : ℕ) → i < n → p i ≡ q i) → allBelow n p ≡ allBelow n q
+unfolding allBelow
+all-same p q zero h = refl
+all-same p q (suc n) h = rw (all-same p q n (λ i l. h i (omega arith)), h n (omega arith)) refl
+
 module _ (p : ℕ → Bool) where
   pub all-next : (i : ℕ) {b t : Bool} → b ≡ allBelow i p → t ≡ p i → (b && t) ≡ allBelow (i + 1) p
   unfolding allBelow

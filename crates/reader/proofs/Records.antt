@@ -8,8 +8,7 @@ use borrow.Author.Tests.{le-leb, eq-eqb, ne-eqb}
 use lib.Dec.{leb, eqb, lit<}
 use lib.ListN.{length, getD, take, drop, length-append, length-take, length-drop, take-append-drop, List·getD-append}
 use lib.Seq.{length-take-le, take-at, drop-at, drop-cons, getD-at, getD-take, getD-drop, drop-drop, take-add, take-take}
-use Rattle.counts.specs.Below.{allBelow}
-use Rattle.counts.proofs.Laws.{all-at, all-next}
+use Rattle.counts.proofs.Laws.{all-same}
 use Rattle.file.specs.Limits.{lineMax}
 use Rattle.ascii.specs.Printable.{printable, printableAt, allPrintable}
 use Rattle.number.specs.Value.{allDigits, valueFrom}
@@ -26,12 +25,6 @@ use Rattle.reader.specs.declared.Reading.{Reading}
 use Rattle.reader.specs.declared.Reading.the-variants.{Record, End, BadWidth, BadRecord}
 use Rattle.reader.proofs.Digits.{all-digits, digits-value, digits-of-value}
 use Rattle.reader.proofs.Laws.{Formed, formed-has}
-
--- a test goes by the bytes that it looks at
-pub all-as : (p q : ℕ → Bool) (n : ℕ) → ((i : ℕ) → i < n → p i ≡ q i) → allBelow n p ≡ allBelow n q
-unfolding allBelow
-all-as p q zero f = refl
-all-as p q (suc n) f = ap₂ _&&_ (all-as p q n (λ i l. f i (omega arith))) (f n (omega arith))
 
 -- ---- the parts of a printed record, whatever stands behind it
 module _ (page line w : ℕ) (text : List ℕ) (wide : w ≤ length text) (rest : List ℕ) where
@@ -66,7 +59,7 @@ module _ (page line w : ℕ) (text : List ℕ) (wide : w ≤ length text) (rest 
   text-same : allPrintable w (drop textAt r) ≡ allPrintable w text
   text-same =
       ap (allPrintable w) behind-line
-      ∙ all-as (printableAt tail) (printableAt text) w (λ i l. ap printable (List·getD-append (take w text) (10 ∷ rest) 0 i (omega (arith, length-take-le w text wide)) ∙ getD-take w text i 0 l))
+      ∙ all-same (printableAt tail) (printableAt text) w (λ i l. ap printable (List·getD-append (take w text) (10 ∷ rest) 0 i (omega (arith, length-take-le w text wide)) ∙ getD-take w text i 0 l))
 
   ends : getD r (textAt + w) 0 ≡ 10
   ends = sym (getD-drop textAt r w 0) ∙ ap (λ (s : List ℕ). getD s w 0) behind-line ∙ getD-at (take w text) 10 rest 0 w (length-take-le w text wide)
@@ -159,7 +152,7 @@ module _ (w : ℕ) (r : List ℕ) (long : recordBytes w ≤ length r) (f : forme
     lineLeast = has .lineLeast;
     lineMost = digits-below 3 (lineDigits r) (simp length-take (omega arith)) (has .line);
     wide = omega (arith, text-long);
-    text = all-as (printableAt (textOf w r)) (printableAt (drop textAt r)) w (λ i l. ap printable (getD-take w (drop textAt r) i 0 l)) ∙ has .text;
+    text = all-same (printableAt (textOf w r)) (printableAt (drop textAt r)) w (λ i l. ap printable (getD-take w (drop textAt r) i 0 l)) ∙ has .text;
   }
 
   page-back : digits 6 (valueFrom 0 (pageDigits r)) ≡ pageDigits r

@@ -8,9 +8,8 @@ use borrow.Author.Tests.{leb-true, leb-false, le-leb, lt-leb, eqb-true}
 use lib.Dec.{leb, eqb}
 use lib.ListN.{length, take, drop, length-append, length-drop, List·getD-append}
 use lib.Seq.{take-append-le, drop-append-le, drop-append-add}
-use Rattle.counts.specs.Below.{allBelow}
-use Rattle.counts.proofs.Laws.{by-test}
-use Rattle.ascii.specs.Printable.{allPrintable}
+use Rattle.counts.proofs.Laws.{by-test, all-same}
+use Rattle.ascii.specs.Printable.{printable, printableAt, allPrintable}
 use Rattle.reader.specs.declared.Reading.the-variants as reading
 use Rattle.reader.specs.Form.{widthOk, recordBytes, pageDigits, lineDigits, textAt, formed, wellFormed}
 use Rattle.reader.specs.Read.{recordOf, readAt}
@@ -54,9 +53,7 @@ fate-at bytes at w last =
 
 -- ---- the bytes behind
 printable-front : (n : ℕ) (r b : List ℕ) → n ≤ length r → allPrintable n (r ++ b) ≡ allPrintable n r
-unfolding allBelow
-printable-front zero r b h = refl
-printable-front (suc n) r b h = rw (printable-front n r b (omega arith), List·getD-append r b 0 n h) refl
+printable-front n r b h = all-same (printableAt (r ++ b)) (printableAt r) n (λ i l. ap printable (List·getD-append r b 0 i (omega arith)))
 
 module _ (w : ℕ) (r b : List ℕ) (h : recordBytes w ≤ length r) where
   page-front : pageDigits (r ++ b) ≡ pageDigits r

@@ -11,7 +11,7 @@ use lib.Dec.{ltb}
 use lib.ListN.{length, getD, take, drop, replicate, length-drop, length-replicate, getD-replicate}
 use lib.Seq.{take-append-le, drop-append-le, getD-append-add, getD-drop}
 use Rattle.counts.specs.Below.{allBelow}
-use Rattle.counts.proofs.Laws.{length-listBelow, list-at}
+use Rattle.counts.proofs.Laws.{all-same, length-listBelow, list-at}
 use Rattle.splice.specs.Splice.{splice}
 use Rattle.splice.proofs.Laws.{length-splice}
 use Rattle.tables.specs.declared.Head.{Head}
@@ -21,12 +21,6 @@ use Rattle.rows.specs.Breaks.{SameControls}
 use Rattle.rows.specs.Facts.{FieldsIn, ControlsIn, Formed}
 use Rattle.state.specs.State.{flagCount, keptSize}
 use Rattle.state.specs.Kept.{paddedRow, flagsSet}
-
--- a test of every index goes by its test below the bound alone
-pub all-same : (p q : ℕ → Bool) (n : ℕ) → ((i : ℕ) → i < n → p i ≡ q i) → allBelow n p ≡ allBelow n q
-unfolding allBelow
-all-same p q zero h = refl
-all-same p q (suc n) h = rw (all-same p q n (λ i l. h i (omega arith)), h n (omega arith)) refl
 
 -- the kept record
 
