@@ -44,6 +44,20 @@ fn put_text(text: &[u8], at: usize, out: &mut [u8])
     splice::fill(b'\n', 1, at + n, out);
 }
 
+// The line of the record at an offset; answers whether it is well-formed.
+fn put_record(w: usize, bytes: &[u8], at: usize, to: usize, out: &mut [u8]) -> bool
+    requires { ⌜ to + (w + 13) ≤ length (now out) ⌝ }
+{
+    let reading = reader::read(bytes, at, w);
+    let Reading::Record(page, line, text) = reading else {
+        return false;
+    };
+    let end = text + w;
+    put_place(page, line, to, out);
+    put_text(&bytes[text..end], to + TEXT_AT, out);
+    true
+}
+
 // The lines of the records, up to one that is not well-formed; gives how many there are.
 fn put_lines(w: usize, bytes: &[u8], out: &mut [u8]) -> usize
     requires { ⌜ (w ≤ lineMax) × (length (now bytes) ≤ 32768) × (65536 ≤ length (now out)) ⌝ }
@@ -52,14 +66,9 @@ fn put_lines(w: usize, bytes: &[u8], out: &mut [u8]) -> usize
     let n = bytes.len() / (w + FRAME);
     let mut k = 0;
     while k < n {
-        let reading = reader::read(bytes, k * (w + FRAME), w);
-        let Reading::Record(page, line, text) = reading else {
+        if !put_record(w, bytes, k * (w + FRAME), k * (w + SHOWN), out) {
             return k;
-        };
-        let to = k * (w + SHOWN);
-        let end = text + w;
-        put_place(page, line, to, out);
-        put_text(&bytes[text..end], to + TEXT_AT, out);
+        }
         k += 1;
     }
     n
