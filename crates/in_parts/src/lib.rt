@@ -194,7 +194,7 @@ fn found(p: Program, bytes: &[u8]) -> usize
     0
 }
 
-// The width, where it is to be found; an empty sheet has none.
+// The width, where it is to be found. An empty sheet has no lines, so 1 is as good as another.
 pub fn begun(p: Program, a: Asked, fd: i32, buffer: &mut [u8]) -> Start
     requires { ⌜ (a .w ≤ lineMax) × (142 ≤ length (now buffer)) ⌝ }
     ensures { λ r. ⌜ r .w ≤ lineMax ⌝ }
@@ -204,8 +204,11 @@ pub fn begun(p: Program, a: Asked, fd: i32, buffer: &mut [u8]) -> Start
     }
     let held = console::read_part(fd, RECORD_MAX, buffer);
     if held == 0 {
-        is_broken(p, a.sheet, fd);
-        return Start { w: 0, held: 0 };
+        let is_read = !is_broken(p, a.sheet, fd);
+        return Start {
+            w: counts::one_if(is_read),
+            held: 0,
+        };
     }
     let w = found(p, &buffer[..held]);
     Start { w, held }
