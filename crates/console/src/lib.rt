@@ -34,6 +34,12 @@ fn usage(p: Program, fd: i32) {
         Program::Apart => {
             io::write_all(fd, b"usage: apart FILE CODE1 SHEET1 CODE2 SHEET2\n");
         }
+        Program::Read => {
+            io::write_all(fd, b"usage: read [W] SHEET|-\n");
+        }
+        Program::Repair => {
+            io::write_all(fd, b"usage: repair [-o FILE] [W] SHEET|-\n");
+        }
     }
 }
 
@@ -69,6 +75,20 @@ fn apart_help(fd: i32) {
     );
 }
 
+fn read_help(fd: i32) {
+    io::write_all(
+        fd,
+        b"\nPrints a sheet to be read, a line for each record: its page in 6 columns, its line in 3, its text. W is the width of the\ntext, 1 to 132; where it is left out, the first line end of the sheet shows it. A record that is not well-formed is told\non standard error and ends the work; what stands before it is printed. Records count from 1, bytes from 0.\n\n  -       take the sheet from standard input (a file of this name is ./-)\n  --help  print this\n",
+    );
+}
+
+fn repair_help(fd: i32) {
+    io::write_all(
+        fd,
+        b"\nPrints a damaged sheet without its damage: of each W + 10 bytes from the start, those that are a well-formed record with\na later page, or a later line on the same page, than the last one kept. What is dropped is told on standard error, a\nline each, and at the end how many were kept and dropped; of a sheet without damage nothing is told. W is the width of\nthe text, 1 to 132; where it is left out, the first line end of the sheet shows it. Records count from 1, bytes from 0.\n\n  -o FILE  put the repaired sheet into FILE, which is made for it: a file that is there already is left as it is\n  -        take the sheet from standard input (a file of this name is ./-)\n  --help   print this\n",
+    );
+}
+
 fn help(p: Program, fd: i32) {
     usage(p, fd);
     match p {
@@ -76,6 +96,8 @@ fn help(p: Program, fd: i32) {
         Program::Explain => explain_help(fd),
         Program::Sheets => sheets_help(fd),
         Program::Apart => apart_help(fd),
+        Program::Read => read_help(fd),
+        Program::Repair => repair_help(fd),
     }
 }
 
@@ -121,7 +143,7 @@ pub fn is_word(i: usize, word: &[u8]) -> bool {
 }
 
 // Whether argument `i` is an option.
-fn is_option(i: usize) -> bool {
+pub fn is_option(i: usize) -> bool {
     let mut text = io::buffer();
     let n = os::arg(i, &mut text);
     n > 0 && text[0] == b'-'

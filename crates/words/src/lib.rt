@@ -9,6 +9,8 @@ pub enum Program {
     Explain,
     Sheets,
     Apart,
+    Read,
+    Repair,
 }
 
 pub fn say(text: &[u8]) {
@@ -25,7 +27,19 @@ pub fn name(p: Program) {
         Program::Explain => say(b"explain: "),
         Program::Sheets => say(b"sheets: "),
         Program::Apart => say(b"apart: "),
+        Program::Read => say(b"read: "),
+        Program::Repair => say(b"repair: "),
     }
+}
+
+// The place of a record in a printed file: behind so many records and bytes.
+pub fn at_record(p: Program, records: u64, bytes: u64) {
+    name(p);
+    say(b"record ");
+    say_number(std::num::wrapping_add_u64(records, 1));
+    say(b" (byte ");
+    say_number(bytes);
+    say(b") ");
 }
 
 // ---- a refusal: where, what, and its numbers

@@ -1,0 +1,2 @@
+-- A law of widths.
+pub mod Laws
