@@ -41,27 +41,14 @@ struct Place {
 }
 
 // ---- what is told
-// A record that is wrong, behind so many records and bytes.
-fn say_record(records: u64, bytes: u64) {
-    words::name(Program::Apart);
-    words::say(b"record ");
-    words::say_number(std::num::wrapping_add_u64(records, 1));
-    words::say(b" (byte ");
-    words::say_number(bytes);
-    words::say(b") ");
-}
-
 // What is wrong with a record that is the first of these bytes.
 fn say_wrong(size: usize, bytes: &[u8])
     requires { ⌜ 1 ≤ size ⌝ }
 {
     let n = bytes.len();
     if n < size {
-        words::say(b"is cut off: ");
-        words::say_number(n as u64);
-        words::say(b" of ");
-        words::say_number(size as u64);
-        words::say(b" bytes came\n");
+        in_parts::say_form(size, n);
+        words::say(b"\n");
     } else if bytes[size - 1] == b'\n' {
         words::say(b"carries neither code\n");
     } else {
@@ -114,36 +101,6 @@ fn put_lines(code: [u8; 2], size: usize, lines: &[u8], fd: i32, arg: usize) -> b
 }
 
 // ---- the records
-// The size of the first record, by its line end; 0 where that is none.
-fn size_in(bytes: &[u8]) -> usize {
-    let mut k = 0;
-    while k < bytes.len() {
-        if bytes[k] == b'\n' {
-            return k + 1;
-        }
-        k += 1;
-    }
-    0
-}
-
-// As much of a buffer as whole records fill.
-fn whole_part(room: usize, size: usize) -> usize
-    requires { ⌜ 1 ≤ size ⌝ }
-    ensures { λ r. ⌜ r ≤ room ⌝ }
-{
-    room - room % size
-}
-
-// Reads behind the bytes in hand, up to a part of the buffer.
-fn filled(fd: i32, held: usize, part: usize, buffer: &mut [u8]) -> usize
-    ensures { λ r. ⌜ r ≤ length (now (buffer .entry)) ⌝ }
-{
-    let to = counts::least(part, buffer.len());
-    let from = counts::least(held, to);
-    let got = io::read_full(fd, &mut buffer[from..to]);
-    from + counts::least(got, to - from)
-}
-
 // Where the first record that is wrong starts, or what is cut off behind the last whole one.
 fn good_part(j: Job, bytes: &[u8]) -> usize
     requires { ⌜ 2 ≤ j .size ⌝ }
@@ -169,7 +126,7 @@ fn take_part(j: Job, p: Place, bytes: &[u8]) -> Place
     let offset = std::num::wrapping_add_u64(p.bytes, good as u64);
     let n = bytes.len();
     if good < n {
-        say_record(records, offset);
+        words::at_record(Program::Apart, records, offset);
         say_wrong(size, &bytes[good..]);
     }
     Place {
@@ -192,7 +149,7 @@ fn take_all(j: Job, start: usize, buffer: &mut [u8])
     let mut turns = u64::MAX;
     while turns > 0 && place.more {
         turns -= 1;
-        let n = filled(j.file, held, j.part, buffer);
+        let n = in_parts::filled(j.file, held, j.part, buffer);
         place = take_part(j, place, &buffer[..n]);
         held = 0;
     }
@@ -208,9 +165,9 @@ fn take_records(one: [u8; 2], two: [u8; 2], file: i32, held: usize, buffer: &mut
     if (first < 0) | (second < 0) | (held == 0) {
         return;
     }
-    let size = size_in(&buffer[..held]);
+    let size = in_parts::size_in(&buffer[..held]);
     if size < SIZE_MIN {
-        say_record(0, 0);
+        words::at_record(Program::Apart, 0, 0);
         words::say(b"does not end after 13 to 144 bytes\n");
         return;
     }
@@ -221,7 +178,7 @@ fn take_records(one: [u8; 2], two: [u8; 2], file: i32, held: usize, buffer: &mut
         first,
         second,
         size,
-        part: whole_part(buffer.len(), size),
+        part: in_parts::whole_part(buffer.len(), size),
     };
     take_all(j, held, buffer);
 }

@@ -162,31 +162,31 @@ fn is_broken(p: Program, arg: usize, fd: i32) -> bool {
     console::is_unreadable(p, 0, fd, &path[..n])
 }
 
-// The width of a record whose line end stands at an offset; 0 where there is none.
-fn width_at(end: usize) -> usize {
-    if end < FRAME {
-        return 0;
-    }
-    end - (FRAME - 1)
-}
-
-// The width of the first record; 0 where its line end does not show it.
-fn width_in(bytes: &[u8]) -> usize {
+// The size of the first record, by its line end; 0 where that is none.
+pub fn size_in(bytes: &[u8]) -> usize {
     let mut k = 0;
     while k < bytes.len() {
         if bytes[k] == b'\n' {
-            return width_at(k);
+            return k + 1;
         }
         k += 1;
     }
     0
 }
 
+// The width of a record of this size; 0 where there is none.
+fn width_of(size: usize) -> usize {
+    if size < FRAME {
+        return 0;
+    }
+    size - FRAME
+}
+
 // The width of a sheet whose first bytes these are; where it shows none, that is told.
 fn found(p: Program, bytes: &[u8]) -> usize
     ensures { λ r. ⌜ r ≤ lineMax ⌝ }
 {
-    let w = width_in(bytes);
+    let w = width_of(size_in(bytes));
     if reader::width_ok(w) {
         return w;
     }
@@ -215,7 +215,7 @@ pub fn begun(p: Program, a: Asked, fd: i32, buffer: &mut [u8]) -> Start
 }
 
 // As much of so many bytes as whole records fill.
-fn whole_part(room: usize, size: usize) -> usize
+pub fn whole_part(room: usize, size: usize) -> usize
     requires { ⌜ 1 ≤ size ⌝ }
     ensures { λ r. ⌜ r ≤ room ⌝ }
 {
@@ -223,7 +223,7 @@ fn whole_part(room: usize, size: usize) -> usize
 }
 
 // Reads behind the bytes in hand, up to a part of the buffer.
-fn filled(fd: i32, held: usize, part: usize, buffer: &mut [u8]) -> usize
+pub fn filled(fd: i32, held: usize, part: usize, buffer: &mut [u8]) -> usize
     ensures { λ r. ⌜ (r ≤ part) × (r ≤ length (now (buffer .entry))) ⌝ }
 {
     let to = counts::least(part, buffer.len());

@@ -11,6 +11,7 @@ found-spec =
     (tie.spec
     (λ c κs. search needs)
     (λ c κs. search needs)
+    (λ c κs. search needs)
     (λ c. width-most _ (c .before .width-ok .ensures) (c .if1 .taken))
     (λ c κs. search needs)
     (λ c. search needs))

@@ -1,11 +1,11 @@
--- `apart::size_in` meets its contract. The invariant: the index is inside. The measure is what is left.
+-- `in_parts::size_in` meets its contract. The invariant: the index is inside. The measure is what is left.
 -- Assumes nothing.
 use Prim.Native.Nat.{_-_, _≤_}
 use native.Mathlib.Omega.{arith}
 use borrow.Author.Needs.{needs}
 use lib.ListN.{length}
-use Rattle.apart.proofs.size_in.Statement.{statement}
-use Rattle.apart.proofs.size_in.Tie as tie
+use Rattle.in_parts.proofs.size_in.Statement.{statement}
+use Rattle.in_parts.proofs.size_in.Tie as tie
 
 abbrev Inv-loop : tie.InvT-loop
 Inv-loop bytes k₀ k = k ≤ length bytes
