@@ -1,26 +1,28 @@
 /* The calls of Bailcurlew for C: CHECK, INITIATE, GENERATE and TERMINATE; the feeder, which takes the records in
- * pieces cut anywhere; and the report file, two agents' reports in one output. docs/ABI.md tells more.
+ * pieces cut anywhere; the report file, two agents' reports in one output; and a printed sheet read back and
+ * repaired. docs/ABI.md tells more.
  *
  * Link with target/staticlib/libreport_c.a (-lreport_c); for the calls of the feeder also, or only, with
  * target/staticlib/libfeeder_c.a (-lfeeder_c), for those of the report file with
- * target/staticlib/libreport_file_c.a (-lreport_file_c). No call allocates, keeps a pointer or needs anything
- * checked beforehand: any bytes are taken as description, state, record, feeder, chunk, codes and report file. What
+ * target/staticlib/libreport_file_c.a (-lreport_file_c), for those that read and repair with
+ * target/staticlib/libreader_c.a (-lreader_c). No call allocates, keeps a pointer or needs anything checked
+ * beforehand: any bytes are taken as description, state, record, feeder, chunk, codes, report file and sheet. What
  * the caller must guarantee:
  *
  * - No pointer is NULL, also where its length is 0; a pointer with length 0 is never read or written through
  *   and may point anywhere else.
- * - `description`, `record`, `chunk` and `output` point to as many bytes as the length beside them says (`length`,
- *   `record_length`, `chunk_length`, `room`), at most PTRDIFF_MAX; `state` to BAILCURLEW_STATE bytes, `feeder` to
- *   BAILCURLEW_FEEDER, `file` to BAILCURLEW_REPORT_FILE, `codes` to BAILCURLEW_CODES; `answer` to three uint64_t,
- *   for the feeder's calls to four, aligned as such. They stay valid, and nobody else writes them, until the call
- *   returns.
- * - What a call writes (`state`, `feeder`, `file`, `output`, `answer`) overlaps nothing else that it is lent.
- *   `description`, `record`, `chunk` and `codes` are only read and may overlap each other.
+ * - `description`, `record`, `chunk`, `output`, `sheet`, `copy` and `list` point to as many bytes as the length beside
+ *   them says (`length`, `record_length`, `chunk_length`, `room`, `copy_room`, `list_room`), at most PTRDIFF_MAX;
+ *   `state` to BAILCURLEW_STATE bytes, `feeder` to BAILCURLEW_FEEDER, `file` to BAILCURLEW_REPORT_FILE, `codes` to
+ *   BAILCURLEW_CODES; `answer` to as many uint64_t as its declaration says, three, four or seven, aligned as such.
+ *   They stay valid, and nobody else writes them, until the call returns.
+ * - What a call writes (`state`, `feeder`, `file`, `output`, `copy`, `list`, `answer`) overlaps nothing else that it is
+ *   lent. `description`, `record`, `chunk`, `codes` and `sheet` are only read and may overlap each other.
  *
  * Length 0 is an answer like any other: an empty description breaks rule 1 (refusal 1, extra number 1); an empty
  * record has not the described length (refusal 5, unless 1 to 4 come first); an empty chunk is refused with 18;
- * without room a call that prints nothing is accepted, and one that prints is refused with 9. `output` and
- * `answer` need not be set beforehand.
+ * without room a call that prints nothing is accepted, and one that prints is refused with 9; an empty sheet is
+ * at its end at offset 0, and repaired it is empty. `output`, `copy`, `list` and `answer` need not be set beforehand.
  *
  * Stack: a call needs less than 36 KiB (measured, docs/AUDIT.md).
  */
@@ -63,8 +65,29 @@ extern "C" {
 #define BAILCURLEW_COUNT 2  /* bytes written to the output */
 #define BAILCURLEW_TAKEN 3  /* bytes taken of the chunk; the feeder's calls only */
 
+/* Places in the answer of bailcurlew_read, behind number and extra number. */
+#define BAILCURLEW_READ_KIND 2 /* BAILCURLEW_RECORD, BAILCURLEW_END or BAILCURLEW_REFUSED */
+#define BAILCURLEW_READ_PAGE 3 /* of a record, 1 to 999,999; else 0 */
+#define BAILCURLEW_READ_LINE 4 /* of a record, 1 to 999; else 0 */
+#define BAILCURLEW_READ_TEXT 5 /* the offset in the sheet where the W characters of a record start; else 0 */
+#define BAILCURLEW_READ_NEXT 6 /* the offset behind a record, to read at next; else the offset itself */
+
+/* What is read. */
+#define BAILCURLEW_RECORD 0
+#define BAILCURLEW_END 1
+#define BAILCURLEW_REFUSED 2
+
+/* Places in the answer of bailcurlew_repair, behind number and extra number. */
+#define BAILCURLEW_COPIED 2 /* bytes written to the copy */
+#define BAILCURLEW_LISTED 3 /* bytes written to the list */
+
+/* Bytes of an entry of the list, and its last byte: why the W + 10 bytes at the offset were dropped. */
+#define BAILCURLEW_ENTRY 9
+#define BAILCURLEW_FORM 1  /* they are no well-formed record, or only the beginning of one */
+#define BAILCURLEW_ORDER 2 /* the record comes no later than the last one kept */
+
 /* The refusals. 1 to 9 are tried in this order; 18 before 1, 11 after 1, 10 after 3. 5 is GENERATE's alone, 10 and 18
- * are the feeder's, 11 is the report file's. */
+ * are the feeder's, 11 is the report file's, 12 is for sheets that are read back: repair tries 9 after it. */
 enum bailcurlew_refusal {
     BAILCURLEW_ACCEPTED = 0,
     BAILCURLEW_DESCRIPTION = 1, /* the description breaks a rule; extra: the first one, 1 to 9 */
@@ -75,9 +98,12 @@ enum bailcurlew_refusal {
     BAILCURLEW_MALFORMED = 6,   /* a field's bytes are malformed; extra: the first such field, from 0 */
     BAILCURLEW_SUM = 7,         /* an addition would leave the sum range */
     BAILCURLEW_PAGE = 8,        /* a page change would pass page 999,999 */
-    BAILCURLEW_ROOM = 9,        /* the output has less room than the call's lines need, or ends before the place */
+    BAILCURLEW_ROOM = 9,        /* the output has less room than the call's lines need, or ends before the place; the
+                                   copy or the list has less than what goes into it */
     BAILCURLEW_UNFINISHED = 10, /* the feeder's TERMINATE with bytes held; extra: how many */
     BAILCURLEW_BAD_CODES = 11,  /* the codes are equal, or a byte of them is outside 32 to 126 */
+    BAILCURLEW_BAD_SHEET = 12,  /* W is outside 1 to 132, extra: 0; or no well-formed record stands at the offset,
+                                   extra: the offset */
     BAILCURLEW_BAD_CHUNK = 18   /* a chunk of 0 bytes or of over BAILCURLEW_CHUNK */
 };
 
@@ -163,6 +189,24 @@ void bailcurlew_report_file_generate(const uint8_t *description, size_t length,
 void bailcurlew_report_file_terminate(const uint8_t *description, size_t length,
                                       uint8_t file[BAILCURLEW_REPORT_FILE], uint32_t agent, uint8_t *output,
                                       size_t room, uint64_t answer[3]);
+
+/* ---- a printed sheet read back, without the codes of a report file
+ *
+ * The sheet is `length` bytes, its lines have `w` characters. A well-formed record is W + 10 bytes: six digits of page
+ * and three of line, each 1 or more, W bytes 32 to 126, byte 10. */
+
+/* What stands at the offset `at`, any number: a well-formed record; the end, where `at` is `length`; or refusal 12, for
+ * W first, then for the bytes there. To walk from record to record, begin at 0 and go on at the next offset. */
+void bailcurlew_read(const uint8_t *sheet, size_t length, size_t at, size_t w, uint64_t answer[7]);
+
+/* Repairs a sheet: looks at each W + 10 bytes from the start, puts the records that are well-formed and have a later
+ * page, or a later line on the same page, than the last one kept to the start of `copy`, one behind the other, and for
+ * each other W + 10 bytes, and for a shorter tail, an entry of BAILCURLEW_ENTRY bytes to the start of `list`: 8 bytes of
+ * offset, low byte first, then BAILCURLEW_FORM or BAILCURLEW_ORDER. The bytes behind stay as they were. Refusals: 12 for
+ * W, then 9 where either has too little room; then all of `copy` and `list` stays as it was. `length` bytes for the copy
+ * and `length` + BAILCURLEW_ENTRY for the list always suffice. */
+void bailcurlew_repair(const uint8_t *sheet, size_t length, size_t w, uint8_t *copy, size_t copy_room,
+                       uint8_t *list, size_t list_room, uint64_t answer[4]);
 
 #ifdef __cplusplus
 }

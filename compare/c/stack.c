@@ -10,9 +10,9 @@
 enum { STACK = 1 << 20, PAINT = 0xa5 };
 
 static uint8_t description[65536], records[1 << 20], output[ROOM], state[BAILCURLEW_STATE], feeder[BAILCURLEW_FEEDER];
-static uint8_t file[BAILCURLEW_REPORT_FILE], *common;
-static uint64_t answer[4];
-static size_t length, step, at, piece, room;
+static uint8_t file[BAILCURLEW_REPORT_FILE], *common, sheet[1 << 20], copy[1 << 20], list[1 << 20];
+static uint64_t answer[7];
+static size_t length, step, at, piece, room, printed, w;
 static uint8_t *painted;
 
 static void *nothing(void *unused)
@@ -80,6 +80,18 @@ static void *file_terminate(void *unused)
     return unused;
 }
 
+static void *read_first(void *unused)
+{
+    bailcurlew_read(sheet, printed, 0, w, answer);
+    return unused;
+}
+
+static void *repair_all(void *unused)
+{
+    bailcurlew_repair(sheet, printed, w, copy, sizeof copy, list, sizeof list, answer);
+    return unused;
+}
+
 static void expect(int is_right, const char *what)
 {
     if (!is_right) {
@@ -109,6 +121,16 @@ static size_t accepted(size_t used)
 {
     expect(answer[BAILCURLEW_NUMBER] == BAILCURLEW_ACCEPTED, "a call");
     return used;
+}
+
+/* The lines of the last call, behind the others as far as there is room. */
+static void keep(void)
+{
+    size_t count = (size_t)answer[BAILCURLEW_COUNT];
+    if (printed + count > sizeof sheet)
+        return;
+    memcpy(sheet + printed, output, count);
+    printed += count;
 }
 
 /* As `accepted`; a chunk may also stop for want of output behind records that stand. */
@@ -150,9 +172,11 @@ int main(int argc, char **argv)
     for (at = 0; at + step <= end; at += step) {
         size_t now = accepted(used(generate));
         most = now > most ? now : most;
+        keep();
     }
     printf("generate %zu\n", most - base);
     printf("terminate %zu\n", accepted(used(terminate)) - base);
+    keep();
 
     end -= end % step;
     bailcurlew_feeder_fresh(0, feeder);
@@ -173,5 +197,11 @@ int main(int argc, char **argv)
     }
     printf("report file generate %zu\n", most - base);
     printf("report file terminate %zu\n", accepted(used(file_terminate)) - base);
+
+    /* The sheet of the first report. W is found by its first line end; where nothing was printed, any will do. */
+    const uint8_t *end_of_line = memchr(sheet, '\n', printed);
+    w = end_of_line == NULL ? 1 : (size_t)(end_of_line - sheet) - 9;
+    printf("read %zu\n", accepted(used(read_first)) - base);
+    printf("repair %zu\n", accepted(used(repair_all)) - base);
     return 0;
 }

@@ -135,6 +135,48 @@ fn two_sheets(program: &Path, name: &str, second: &str, room: &str) -> Output {
     run(Command::new(program).arg(example(name, "desc")).args([&rows, &rows]).args([second, room]))
 }
 
+/// The examples' sheets, read and printed again, and kept whole by a repair.
+#[test]
+fn a_c_program_reads_the_examples_back() {
+    let program = compiled("read", &["-lreader_c"], "c_read");
+    for (name, w) in [("whole_run", "12"), ("day_sheet", "80"), ("pictures", "56")] {
+        let sheet = std::fs::read(example(name, "sheet")).expect("the example's sheet");
+        let output =
+            run(Command::new(&program).arg(example(name, "sheet")).args([w, &sheet.len().to_string()]));
+        assert_eq!((output.status.code(), shown(&output)), (Some(0), String::new()));
+        assert!(output.stdout == [sheet.as_slice(), &sheet].concat(), "{name}");
+    }
+}
+
+/// What the C program tells of a damaged sheet, of too little room for the list and of a width out of range.
+#[test]
+fn a_c_program_repairs_a_sheet() {
+    let program = compiled("read", &["-lreport_c", "-lreader_c"], "c_repair");
+    let damaged = Path::new(env!("CARGO_TARGET_TMPDIR")).join("damaged.sheet");
+    std::fs::write(&damaged, b"000001001a\n00000100b\n\n000001001c\n00000").expect("a temporary file");
+    for (w, room, code, told, printed) in [
+        (
+            "1",
+            "27",
+            0,
+            "read: refusal 12, extra number 11\n",
+            "000001001a\n000001001a\n11 form\n22 order\n33 form\n",
+        ),
+        (
+            "1",
+            "26",
+            1,
+            "read: refusal 12, extra number 11\nrepair: refusal 9, extra number 0\n",
+            "000001001a\n",
+        ),
+        ("133", "27", 1, "read: refusal 12, extra number 0\nrepair: refusal 12, extra number 0\n", ""),
+    ] {
+        let output = run(Command::new(&program).arg(&damaged).args([w, room]));
+        assert_eq!((output.status.code(), shown(&output).as_str()), (Some(code), told));
+        assert_eq!(String::from_utf8_lossy(&output.stdout), printed);
+    }
+}
+
 /// The header alone, as C and as C++ where there is a compiler for it.
 #[test]
 fn the_header_stands_alone() {

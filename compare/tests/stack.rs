@@ -9,8 +9,8 @@ use second::description::check;
 use second::report::{generate, initiate, terminate};
 use second::state::State;
 
-/// The calls of a report, of the feeder and of the report file, one line each.
-const TOLD: usize = 10;
+/// The calls of a report, of the feeder and of the report file, and those that read a sheet back, one line each.
+const TOLD: usize = 12;
 
 /// Bytes of stack; what is measured is less.
 const BOUND: usize = 36_864;
@@ -28,7 +28,7 @@ fn compiled() -> PathBuf {
     let mut compiler = Command::new("cc");
     compiler.args(["-std=c99", "-pedantic", "-Wall", "-Wextra", "-Werror", "-O2"]);
     compiler.arg("-I").arg(at("../include")).arg(at("c/stack.c")).arg("-L").arg(library());
-    compiler.args(["-lreport_c", "-lfeeder_c", "-lreport_file_c", "-lpthread", "-o"]);
+    compiler.args(["-lreport_c", "-lfeeder_c", "-lreport_file_c", "-lreader_c", "-lpthread", "-o"]);
     let output = compiler.arg(&program).output().expect("cc");
     assert!(output.status.success(), "{}", String::from_utf8_lossy(&output.stderr));
     program

@@ -1,6 +1,6 @@
-//! The proved calls, from Rust: a safe wrapper of what `crates/report_c`, `crates/feeder_c` and `crates/report_file_c` export.
-//! Standard library only; it links `libreport_c.a`, `libfeeder_c.a` and `libreport_file_c.a` of `target/staticlib`, which
-//! `rt staticlib` writes.
+//! The proved calls, from Rust: a safe wrapper of what `crates/report_c`, `crates/feeder_c`, `crates/report_file_c` and
+//! `crates/reader_c` export. Standard library only; it links `libreport_c.a`, `libfeeder_c.a`, `libreport_file_c.a` and
+//! `libreader_c.a` of `target/staticlib`, which `rt staticlib` writes.
 //!
 //! A report is a description and a [`State`]. The state begins with [`State::fresh`]; INITIATE, GENERATE and
 //! TERMINATE are methods on it, and each gives an [`Answer`]. Accepted, the state becomes the next one and the
@@ -67,6 +67,24 @@
 //! let sheet: Vec<u8> = lines.flatten().copied().collect();
 //! assert_eq!(sheet, include_bytes!("../../examples/whole_run.sheet"));
 //! ```
+//!
+//! A printed sheet is read back by [`read`], record by record by a [`Walker`]; [`repair`] keeps of a damaged one what can be
+//! kept.
+//!
+//! ```
+//! use bailcurlew::{repair, Walker};
+//!
+//! let mut sheet = *include_bytes!("../../examples/whole_run.sheet");
+//! let records: Result<Vec<_>, _> = Walker::new(&sheet, 12).collect();
+//! let records = records.expect("a sheet as it was printed");
+//! assert_eq!((records[0].page, records[0].line, records[0].text), (1, 1, b"PAGE  1     ".as_slice()));
+//!
+//! sheet[22 + 9] = 7;
+//! assert_eq!(Walker::new(&sheet, 12).filter_map(Result::err).next().map(|refusal| refusal.extra), Some(22));
+//! let (mut copy, mut list) = ([0; 176], [0; 9]);
+//! let repaired = repair(&sheet, 12, &mut copy, &mut list);
+//! assert_eq!((repaired.copied, repaired.listed), (154, 9));
+//! ```
 
 /// Bytes of a state.
 pub const STATE_BYTES: usize = 530;
@@ -85,6 +103,15 @@ const PLACE_AT: usize = 1064;
 
 /// The most bytes of a chunk; the fewest are 1.
 pub const LONGEST_CHUNK: usize = 4096;
+
+/// Bytes of an entry in the list of what a repair drops: 8 of offset, low byte first, then why, [`FORM`] or [`ORDER`].
+pub const ENTRY_BYTES: usize = 9;
+
+/// Dropped since no well-formed record stands there, or only the beginning of one at the end of the sheet.
+pub const FORM: u8 = 1;
+
+/// Dropped since it comes no later than the last record kept.
+pub const ORDER: u8 = 2;
 
 extern "C" {
     fn bailcurlew_check(description: *const u8, length: usize) -> u32;
@@ -157,6 +184,17 @@ extern "C" {
         agent: u32,
         output: *mut u8,
         room: usize,
+        answer: *mut u64,
+    );
+    fn bailcurlew_read(sheet: *const u8, length: usize, at: usize, w: usize, answer: *mut u64);
+    fn bailcurlew_repair(
+        sheet: *const u8,
+        length: usize,
+        w: usize,
+        copy: *mut u8,
+        copy_room: usize,
+        list: *mut u8,
+        list_room: usize,
         answer: *mut u64,
     );
 }
@@ -484,4 +522,148 @@ impl ReportFile {
         }
         Answer::of(answer)
     }
+}
+
+// ---- a printed sheet read back
+
+/// What stands at an offset of a sheet.
+#[derive(Clone, Copy, Debug, PartialEq, Eq)]
+pub enum Reading<'a> {
+    Record(Record<'a>),
+    /// The offset is the sheet's length.
+    End,
+}
+
+/// A printed record.
+#[derive(Clone, Copy, Debug, PartialEq, Eq)]
+pub struct Record<'a> {
+    /// 1 to 999,999.
+    pub page: u32,
+    /// 1 to 999.
+    pub line: u16,
+    /// Its W characters, bytes 32 to 126.
+    pub text: &'a [u8],
+    /// Where they start in the sheet.
+    pub text_at: usize,
+    /// The offset behind the record, to read at next.
+    pub next: usize,
+}
+
+/// A refused read.
+#[derive(Clone, Copy, Debug, PartialEq, Eq)]
+pub struct Refusal {
+    /// 12: W is outside 1 to 132, which is tried first, or no well-formed record stands at the offset.
+    pub number: u64,
+    /// The offset, where no well-formed record stands there; 0 for W.
+    pub extra: u64,
+}
+
+/// The kinds of what is read, in the third place of an answer; the others are refused.
+const RECORD: u64 = 0;
+const END: u64 = 1;
+
+/// What stands at an offset of a sheet whose lines have `w` characters: a well-formed record of W + 10 bytes, or the end. Any
+/// bytes, offset and width are taken.
+pub fn read(sheet: &[u8], at: usize, w: usize) -> Result<Reading<'_>, Refusal> {
+    let mut answer = [0; 7];
+    unsafe { bailcurlew_read(sheet.as_ptr(), sheet.len(), at, w, answer.as_mut_ptr()) };
+    let [number, extra, kind, page, line, text, next] = answer;
+    match kind {
+        RECORD => {
+            // The numbers of a record are of six and three digits, and its offsets within the sheet.
+            let text_at = text as usize;
+            let text = &sheet[text_at..text_at + w];
+            let (page, line, next) = (page as u32, line as u16, next as usize);
+            Ok(Reading::Record(Record { page, line, text, text_at, next }))
+        }
+        END => Ok(Reading::End),
+        _ => Err(Refusal { number, extra }),
+    }
+}
+
+/// Reads a sheet from its start, record by record. A refusal is the last thing that it yields, and it stays at that place.
+///
+/// A damaged sheet may be read on behind a bad record by [`read`] at an offset of one's own.
+#[derive(Clone, Debug)]
+pub struct Walker<'a> {
+    sheet: &'a [u8],
+    w: usize,
+    place: usize,
+    is_over: bool,
+}
+
+impl<'a> Walker<'a> {
+    /// At the start of a sheet whose lines have `w` characters.
+    pub fn new(sheet: &'a [u8], w: usize) -> Walker<'a> {
+        Walker { sheet, w, place: 0, is_over: false }
+    }
+
+    /// The offset that it reads at next.
+    pub fn place(&self) -> usize {
+        self.place
+    }
+}
+
+impl<'a> Iterator for Walker<'a> {
+    type Item = Result<Record<'a>, Refusal>;
+
+    fn next(&mut self) -> Option<Self::Item> {
+        if self.is_over {
+            return None;
+        }
+        let reading = read(self.sheet, self.place, self.w);
+        let Ok(Reading::Record(record)) = reading else {
+            self.is_over = true;
+            return reading.err().map(Err);
+        };
+        self.place = record.next;
+        Some(Ok(record))
+    }
+}
+
+impl std::iter::FusedIterator for Walker<'_> {}
+
+/// What a repair answers.
+#[derive(Clone, Copy, Debug, PartialEq, Eq)]
+pub struct Repaired {
+    /// 0 accepted; 12 where W is outside 1 to 132, then 9 where the copy or the list has too little room.
+    pub number: u64,
+    /// The refusal's extra number, always 0.
+    pub extra: u64,
+    /// Bytes written to the copy.
+    pub copied: usize,
+    /// Bytes written to the list.
+    pub listed: usize,
+}
+
+impl Repaired {
+    pub fn accepted(&self) -> bool {
+        self.number == 0
+    }
+
+    /// The counts are at most the lengths of copy and list and so a `usize`.
+    fn of([number, extra, copied, listed]: [u64; 4]) -> Repaired {
+        Repaired { number, extra, copied: copied as usize, listed: listed as usize }
+    }
+}
+
+/// Repairs a sheet whose lines have `w` characters: looks at each W + 10 bytes from the start, keeps the records that are
+/// well-formed and come later, by page and line, than the last one kept, and lists what it drops, [`ENTRY_BYTES`] for each; a
+/// short tail too. What is kept goes to the start of `copy`, the list to the start of `list`; the bytes behind stay. Refused,
+/// all of both stays. As much room as `sheet` has always suffices for the copy, as many bytes and nine more for the list.
+pub fn repair(sheet: &[u8], w: usize, copy: &mut [u8], list: &mut [u8]) -> Repaired {
+    let mut answer = [0; 4];
+    unsafe {
+        bailcurlew_repair(
+            sheet.as_ptr(),
+            sheet.len(),
+            w,
+            copy.as_mut_ptr(),
+            copy.len(),
+            list.as_mut_ptr(),
+            list.len(),
+            answer.as_mut_ptr(),
+        );
+    }
+    Repaired::of(answer)
 }
