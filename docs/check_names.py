@@ -47,7 +47,7 @@ def check_function(doc, crate, path, name):
     if not re.search(rf"\bfn {name}\b", sources):
         faults.append(f"{doc}: {spelled}: no such function")
     for word in path.split("::")[:-1]:
-        if not re.search(rf"\b(?:impl|mod) {word}\b", sources):
+        if not re.search(rf"\b(?:impl(?:<[^>]*>)?|mod) {word}\b", sources):
             faults.append(f"{doc}: {spelled}: no `impl {word}` and no `mod {word}`")
 
 
