@@ -7,7 +7,7 @@ use std::fs;
 
 use program::{example, Folder, Written};
 use reading::{fed, in_little_memory, part_of, run, sheet_of, status, text, width_in};
-use second::cases::wet_case;
+use second::cases::repair_case;
 use second::read::{Read, Walker};
 
 const USAGE: &str = "usage: read [W] SHEET|-\n";
@@ -125,7 +125,7 @@ fn random_sheets_and_damaged_copies() {
     let folder = Folder::new("read-random");
     let (mut whole, mut refused, mut cut) = (0, 0, 0);
     for seed in 0..CASES {
-        let case = wet_case(seed);
+        let case = repair_case(seed);
         assert_eq!(agrees(&folder, &case.sheet.bytes, case.sheet.w).errors, "", "{seed}");
         for copy in &case.copies {
             let told = agrees(&folder, &copy.bytes, case.sheet.w).errors;

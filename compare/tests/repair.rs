@@ -9,7 +9,7 @@ use std::path::Path;
 use program::{example, Folder, Written};
 use reading::{fed, in_little_memory, part_of, run, sheet_of, status, text, width_in};
 use second::cases::damage::{damage, KINDS};
-use second::cases::{wet_case, Rng};
+use second::cases::{repair_case, Rng};
 use second::repair::{repaired, FORM};
 
 const USAGE: &str = "usage: repair [-o FILE] [W] SHEET|-\n";
@@ -131,7 +131,7 @@ fn random_sheets_and_damaged_copies() {
     let folder = Folder::new("repair-random");
     let mut met = [0; 4];
     for seed in 1_000..1_000 + CASES {
-        let case = wet_case(seed);
+        let case = repair_case(seed);
         let w = case.sheet.w;
         let whole = agrees(&folder, &case.sheet.bytes, w);
         if case.sheet.reports == 1 {

@@ -11,7 +11,7 @@
 //! the second program and each agent's calls once more alone.
 //!
 //! For R-8 it draws a `sheets::sheet` or a `sheets::one_report`, a printed sheet with its W, and makes copies of it by
-//! `damage::damaged`, or `wet_case`s of both; `Wet::run` reads and repairs them with the second program.
+//! `damage::damaged`, or `repair_case`s of both; `Repairs::run` reads and repairs them with the second program.
 
 mod broken;
 pub mod damage;
@@ -22,6 +22,7 @@ mod interleaved;
 mod interleaving;
 mod keep;
 mod pictures;
+mod repairs;
 mod rng;
 mod rows;
 mod rule_9;
@@ -35,18 +36,17 @@ mod summing;
 mod tally;
 mod valid;
 mod walk;
-mod wet;
 
 pub use draft::{Block, Count, Draft, Page, Row};
 pub use explained::{explained_case, summing_description, Explained};
 pub use interleaved::Interleaved;
 pub use interleaving::{play_two, two_case, Interleaving, TwoCase, TwoStep};
 pub use keep::call as keeps;
+pub use repairs::{repair_case, RepairCase, Repairs};
 pub use rng::Rng;
 pub use sample::{damaged, sample, Sample};
 pub use sequence::{pattern, Call, Expect, Sequence, Step};
 pub use tally::Tally;
-pub use wet::{wet_case, Wet, WetCase};
 
 use crate::description::check;
 use crate::report::{self, Answer};
@@ -122,7 +122,7 @@ const HELP: &str = "second cases: random cases against the second program
   second cases --case N
   second cases --explained-case N
   second cases --two-case N
-  second cases --wet-case N
+  second cases --repair-case N
 
   --seed N          where chance begins (1)
   --descriptions N  how many descriptions CHECK gets (50000)
@@ -134,7 +134,7 @@ const HELP: &str = "second cases: random cases against the second program
   --case N          show one case: its description, its calls and their answers
   --explained-case N  the same of a case of R-6
   --two-case N      the same of a case of R-7
-  --wet-case N      a case of R-8: its files, and what is kept of each
+  --repair-case N      a case of R-8: its files, and what is kept of each
 
 Prints how often each rule and refusal was reached. Ends with 1 where one was not reached, where a
 clause of rule 9 or a feature of pictures was not reached 100 times, one of signs 100 or 25 times, one of
@@ -154,7 +154,7 @@ struct Amounts {
     all: bool,
     case: Option<Case>,
     two_case: Option<TwoCase>,
-    wet_case: Option<WetCase>,
+    repair_case: Option<RepairCase>,
 }
 
 impl Amounts {
@@ -170,7 +170,7 @@ impl Amounts {
             all: false,
             case: None,
             two_case: None,
-            wet_case: None,
+            repair_case: None,
         }
     }
 }
@@ -184,7 +184,7 @@ pub fn main(args: &[String]) -> i32 {
     match read_args(args) {
         Ok(Amounts { case: Some(case), .. }) => show_case(case),
         Ok(Amounts { two_case: Some(case), .. }) => interleaved::show_case(case),
-        Ok(Amounts { wet_case: Some(case), .. }) => wet::show_case(&case),
+        Ok(Amounts { repair_case: Some(case), .. }) => repairs::show_case(&case),
         Ok(amounts) => run_and_report(amounts),
         Err(wrong) => {
             eprintln!("second cases: {wrong}; --help tells more");
@@ -213,7 +213,7 @@ fn read_args(args: &[String]) -> Result<Amounts, String> {
             "--case" => amounts.case = Some(case(value().ok_or_else(wanted)?)),
             "--explained-case" => amounts.case = Some(explained_case(value().ok_or_else(wanted)?)),
             "--two-case" => amounts.two_case = Some(two_case(value().ok_or_else(wanted)?)),
-            "--wet-case" => amounts.wet_case = Some(wet_case(value().ok_or_else(wanted)?)),
+            "--repair-case" => amounts.repair_case = Some(repair_case(value().ok_or_else(wanted)?)),
             _ => return Err(format!("{name} is unknown")),
         }
     }
@@ -226,15 +226,16 @@ fn run_and_report(amounts: Amounts) -> i32 {
     eprintln!("{} footings explained", explained.footings);
     let interleaved = Interleaved::run(amounts.seed, amounts.two_calls);
     eprintln!("{} calls of two agents", interleaved.calls);
-    let wet = Wet::run(amounts.seed, amounts.files);
-    eprintln!("{} files read back and repaired", wet.files());
+    let damaged = Repairs::run(amounts.seed, amounts.files);
+    eprintln!("{} files read back and repaired", damaged.files());
     print!("{}{}", run.tally.report(amounts.all), explained.report(amounts.all));
-    print!("{}{}", interleaved.report(amounts.all), wet.report(amounts.all));
-    let missing = [run.tally.missing(), explained.missing(), interleaved.missing(), wet.missing()].concat();
+    print!("{}{}", interleaved.report(amounts.all), damaged.report(amounts.all));
+    let missing =
+        [run.tally.missing(), explained.missing(), interleaved.missing(), damaged.missing()].concat();
     for name in &missing {
         println!("NOT REACHED: {name}");
     }
-    let wrong = [run.wrong, explained.wrong, interleaved.wrong, wet.wrong].concat();
+    let wrong = [run.wrong, explained.wrong, interleaved.wrong, damaged.wrong].concat();
     for line in &wrong {
         println!("WRONG: {line}");
     }

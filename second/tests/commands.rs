@@ -510,26 +510,26 @@ const READ_BACK: &str = "\
 2 4 SUM.....7...
 ";
 
-/// A directory with the whole run's sheet in the file `sheet`, the same damaged in `wet`, and an empty file `empty`: line 4
+/// A directory with the whole run's sheet in the file `sheet`, the same damaged in `damaged`, and an empty file `empty`: line 4
 /// has a byte 31, the line of page 1, line 6 stands behind it again, and half a record is at the end.
-fn wet_directory(test: &str) -> PathBuf {
+fn damaged_directory(test: &str) -> PathBuf {
     let path = whole_run_directory(test);
     let sheet = sheet_bytes(WHOLE_RUN_SHEET);
-    let mut wet = [&sheet[..110], &sheet[88..], &sheet[..11]].concat();
-    wet[44 + 10] = 31;
+    let mut damaged = [&sheet[..110], &sheet[88..], &sheet[..11]].concat();
+    damaged[44 + 10] = 31;
     std::fs::write(path.join("sheet"), sheet).unwrap();
-    std::fs::write(path.join("wet"), wet).unwrap();
+    std::fs::write(path.join("damaged"), damaged).unwrap();
     path
 }
 
 #[test]
 fn read_gives_page_line_and_text() {
-    let path = wet_directory("read");
+    let path = damaged_directory("read");
     assert_eq!(run(&path, &["read", "12", "sheet"]), (0, sheet_bytes(READ_BACK), String::new()));
     assert_eq!(run(&path, &["read", "12", "empty"]), (0, Vec::new(), String::new()));
-    let words = "second: wet: reading at offset 44 refused: refusal 12, extra number 44";
+    let words = "second: damaged: reading at offset 44 refused: refusal 12, extra number 44";
     let before: String = READ_BACK.split_inclusive('\n').take(2).collect();
-    fails_after(&path, &["read", "12", "wet"], 1, &sheet_bytes(&before), words);
+    fails_after(&path, &["read", "12", "damaged"], 1, &sheet_bytes(&before), words);
     let words = "second: sheet: reading at offset 0 refused: refusal 12, extra number 0";
     for width in ["0", "133", "11", "13"] {
         fails(&path, &["read", width, "sheet"], 1, words);
@@ -540,7 +540,7 @@ fn read_gives_page_line_and_text() {
 
 #[test]
 fn repair_of_an_undamaged_sheet_says_nothing() {
-    let path = wet_directory("repair");
+    let path = damaged_directory("repair");
     let sheet = sheet_bytes(WHOLE_RUN_SHEET);
     assert_eq!(run(&path, &["repair", "12", "sheet"]), (0, sheet.clone(), String::new()));
     assert_eq!(run(&path, &["repair", "12", "empty"]), (0, Vec::new(), String::new()));
@@ -552,17 +552,17 @@ fn repair_of_an_undamaged_sheet_says_nothing() {
 
 #[test]
 fn repair_tells_what_it_drops() {
-    let path = wet_directory("repair_wet");
+    let path = damaged_directory("repair_damaged");
     let sheet = sheet_bytes(WHOLE_RUN_SHEET);
     let kept = [&sheet[..44], &sheet[66..]].concat();
     let told = "\
-second: wet: dropped at offset 44: out of form
-second: wet: dropped at offset 110: out of order
-second: wet: dropped at offset 198: out of form
-second: wet: 3 dropped: 2 out of form, 1 out of order
+second: damaged: dropped at offset 44: out of form
+second: damaged: dropped at offset 110: out of order
+second: damaged: dropped at offset 198: out of form
+second: damaged: 3 dropped: 2 out of form, 1 out of order
 ";
-    assert_eq!(run(&path, &["repair", "12", "wet"]), (1, kept.clone(), told.to_string()));
-    let args = ["repair", "-l", "list", "12", "-o", "out", "wet"];
+    assert_eq!(run(&path, &["repair", "12", "damaged"]), (1, kept.clone(), told.to_string()));
+    let args = ["repair", "-l", "list", "12", "-o", "out", "damaged"];
     assert_eq!(run(&path, &args), (1, Vec::new(), told.to_string()));
     assert_eq!(std::fs::read(path.join("out")).unwrap(), kept);
     let list = [[44, 0, 0, 0, 0, 0, 0, 0, 1], [110, 0, 0, 0, 0, 0, 0, 0, 2], [198, 0, 0, 0, 0, 0, 0, 0, 1]];
@@ -573,13 +573,13 @@ second: wet: 3 dropped: 2 out of form, 1 out of order
 
 #[test]
 fn repair_without_its_files_or_a_width_says_so() {
-    let path = wet_directory("repair_files");
+    let path = damaged_directory("repair_files");
     fails(&path, &["repair", "12", "none"], 1, "second: none: ");
     fails(&path, &["repair", "12", "sheet", "-o", "no/out"], 1, "second: no/out: ");
     fails(&path, &["repair", "12", "empty", "-l", "no/list"], 1, "second: no/list: ");
     for width in ["0", "133"] {
-        let args = ["repair", width, "wet", "-o", "out", "-l", "list"];
-        fails(&path, &args, 1, "second: wet: repair refused: refusal 12, extra number 0");
+        let args = ["repair", width, "damaged", "-o", "out", "-l", "list"];
+        fails(&path, &args, 1, "second: damaged: repair refused: refusal 12, extra number 0");
     }
     assert!(!path.join("out").exists() && !path.join("list").exists());
 }

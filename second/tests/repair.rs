@@ -1,11 +1,11 @@
-//! A wet sheet repaired: what is kept and what is dropped, the list's bytes, the refusals, the room of both buffers.
+//! A damaged sheet repaired: what is kept and what is dropped, the list's bytes, the refusals, the room of both buffers.
 
 mod common;
 
 use common::{sheet_bytes, whole_run, Run, WHOLE_RUN_ROWS, WHOLE_RUN_SHEET};
 use second::cases::damage::{damage, damaged, KINDS};
 use second::cases::sheets::one_report;
-use second::cases::{Rng, Wet};
+use second::cases::{Repairs, Rng};
 use second::read::Refusal;
 use second::repair::{repair, repaired, Answer, Dropped, FORM, ORDER};
 
@@ -205,7 +205,7 @@ fn w_is_1_to_132() {
 // ---- room
 
 /// Two kept, two dropped and a short tail: 22 bytes of copy, 27 of list.
-fn wet() -> (Vec<u8>, Vec<u8>, Vec<u8>) {
+fn small_sheet() -> (Vec<u8>, Vec<u8>, Vec<u8>) {
     let sheet = [records(&["000001005a", "000001003b", "00000x009d", "000001006e"]), vec![b'0'; 3]].concat();
     let list = [[11, 0, 0, 0, 0, 0, 0, 0, 2], [22, 0, 0, 0, 0, 0, 0, 0, 1], [44, 0, 0, 0, 0, 0, 0, 0, 1]];
     (sheet, records(&["000001005a", "000001006e"]), list.concat())
@@ -213,7 +213,7 @@ fn wet() -> (Vec<u8>, Vec<u8>, Vec<u8>) {
 
 #[test]
 fn bytes_behind_what_is_written_stay() {
-    let (sheet, kept, entries) = wet();
+    let (sheet, kept, entries) = small_sheet();
     for (more, list_more) in [(0, 0), (1, 0), (0, 1), (40, 9)] {
         let (mut copy, mut list) = (vec![UNTOUCHED; 22 + more], vec![UNTOUCHED; 27 + list_more]);
         let answer = repair(&sheet, 1, &mut copy, &mut list);
@@ -225,7 +225,7 @@ fn bytes_behind_what_is_written_stay() {
 
 #[test]
 fn one_byte_short_in_either_buffer_is_refused_and_both_stay() {
-    let (sheet, _, _) = wet();
+    let (sheet, _, _) = small_sheet();
     for (room, list_room) in [(21, 27), (22, 26), (21, 26), (0, 27), (22, 0), (0, 0), (21, 500), (500, 26)] {
         let (mut copy, mut list) = (vec![UNTOUCHED; room], vec![UNTOUCHED; list_room]);
         let answer = repair(&sheet, 1, &mut copy, &mut list);
@@ -243,7 +243,7 @@ fn no_room_is_needed_for_nothing() {
     let answer = repair(&sheet, 12, &mut copy, &mut []);
     assert_eq!(answer, Answer { number: 0, extra: 0, copied: 176, listed: 0 });
     assert_eq!(copy, sheet);
-    let answer = repair(b"wet", 12, &mut [], &mut list);
+    let answer = repair(b"damaged", 12, &mut [], &mut list);
     assert_eq!(answer, Answer { number: 0, extra: 0, copied: 0, listed: 9 });
     assert_eq!(list, [0, 0, 0, 0, 0, 0, 0, 0, 1]);
 }
@@ -264,19 +264,19 @@ fn a_random_damaged_sheet_is_kept_in_part() {
     let mut rng = Rng::new(23);
     let sheet = sheet_bytes(WHOLE_RUN_SHEET);
     for kind in KINDS.into_iter().cycle().take(400) {
-        let mut wet = sheet.clone();
-        damage(&mut rng, &mut wet, 12, kind);
-        let copy = repaired(&wet, 12).unwrap().copy;
-        assert!(copy.len() <= wet.len() && copy.len().is_multiple_of(22));
+        let mut torn = sheet.clone();
+        damage(&mut rng, &mut torn, 12, kind);
+        let copy = repaired(&torn, 12).unwrap().copy;
+        assert!(copy.len() <= torn.len() && copy.len().is_multiple_of(22));
         drops(&copy, 12, &[]);
-        let wet = damaged(&mut rng, &sheet, 12).bytes;
-        drops(&repaired(&wet, 12).unwrap().copy, 12, &[]);
+        let torn = damaged(&mut rng, &sheet, 12).bytes;
+        drops(&repaired(&torn, 12).unwrap().copy, 12, &[]);
     }
 }
 
 #[test]
 fn random_files_are_read_and_repaired_as_document_02_says() {
-    let run = Wet::run(24, 2_000);
+    let run = Repairs::run(24, 2_000);
     assert_eq!(run.wrong, Vec::<String>::new());
     assert!(run.files() >= 2_000 && run.sheets >= 150 && run.kept >= 20_000, "{run:?}");
     let never: Vec<_> = run.reached.iter().filter(|(_, &times)| times == 0).collect();

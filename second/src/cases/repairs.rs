@@ -76,25 +76,25 @@ const TOLD: usize = 10;
 
 /// A sheet and damaged copies of it.
 #[derive(Clone, Debug)]
-pub struct WetCase {
-    /// `wet_case` makes the same case of it again.
+pub struct RepairCase {
+    /// `repair_case` makes the same case of it again.
     pub seed: u64,
     pub sheet: Sheet,
     pub copies: Vec<Damaged>,
 }
 
 /// The case of a seed for R-8: a printed sheet and 4 to 12 damaged copies of it.
-pub fn wet_case(seed: u64) -> WetCase {
+pub fn repair_case(seed: u64) -> RepairCase {
     let mut rng = Rng::new(seed);
     let sheet = sheet(&mut rng);
     let count = rng.between(4, 12);
     let copies = (0..count).map(|_| damaged(&mut rng, &sheet.bytes, sheet.w)).collect();
-    WetCase { seed, sheet, copies }
+    RepairCase { seed, sheet, copies }
 }
 
 /// A run of R-8: the counts, and what went wrong.
 #[derive(Clone, Debug)]
-pub struct Wet {
+pub struct Repairs {
     /// Sheets as they were printed, and damaged copies.
     pub sheets: u64,
     pub copies: u64,
@@ -107,11 +107,11 @@ pub struct Wet {
     pub wrong: Vec<String>,
 }
 
-impl Wet {
+impl Repairs {
     /// Reads and repairs cases until they have so many files, sheets and copies together.
-    pub fn run(seed: u64, files: u64) -> Wet {
+    pub fn run(seed: u64, files: u64) -> Repairs {
         let mut rng = Rng::new(seed);
-        let mut run = Wet {
+        let mut run = Repairs {
             sheets: 0,
             copies: 0,
             kept: 0,
@@ -120,7 +120,7 @@ impl Wet {
             wrong: Vec::new(),
         };
         while run.files() < files && run.wrong.len() < TOLD {
-            run.play(&wet_case(rng.draw()));
+            run.play(&repair_case(rng.draw()));
         }
         run
     }
@@ -139,7 +139,7 @@ impl Wet {
 
     /// A report to read, the features in short or one by one.
     pub fn report(&self, all: bool) -> String {
-        let Wet { sheets, copies, kept, dropped: [form, order], .. } = self;
+        let Repairs { sheets, copies, kept, dropped: [form, order], .. } = self;
         let mut text = format!("R-8           {} files read back and repaired", self.files());
         text += &format!(", {sheets} as printed and {copies} damaged\n");
         text += &format!("  records     kept: {kept}, dropped as form: {form}, as order: {order}\n");
@@ -149,7 +149,7 @@ impl Wet {
         text
     }
 
-    fn play(&mut self, case: &WetCase) {
+    fn play(&mut self, case: &RepairCase) {
         let mut rng = Rng::new(case.seed);
         let Sheet { bytes, w, reports } = &case.sheet;
         self.sheets += 1;
@@ -167,7 +167,7 @@ impl Wet {
     }
 
     /// Reads and repairs one file; gives its repair with room enough.
-    fn file(&mut self, case: &WetCase, rng: &mut Rng, bytes: &[u8]) -> Tried {
+    fn file(&mut self, case: &RepairCase, rng: &mut Rng, bytes: &[u8]) -> Tried {
         let w = case.sheet.w;
         let tried = Tried::with_ample_room(rng, bytes, w);
         self.note(case, tried.keeps(bytes, w));
@@ -189,7 +189,7 @@ impl Wet {
     }
 
     /// The same repair with other rooms, and with a W that is none.
-    fn rooms(&mut self, case: &WetCase, rng: &mut Rng, bytes: &[u8], ample: &Tried) {
+    fn rooms(&mut self, case: &RepairCase, rng: &mut Rng, bytes: &[u8], ample: &Tried) {
         for _ in 0..3 {
             let rooms = other_rooms(rng, ample);
             let tried = Tried::of(rng, bytes, case.sheet.w, rooms);
@@ -206,7 +206,7 @@ impl Wet {
     }
 
     /// The reader at the places that the repair tool looks at, and at others.
-    fn offsets(&mut self, case: &WetCase, rng: &mut Rng, bytes: &[u8]) {
+    fn offsets(&mut self, case: &RepairCase, rng: &mut Rng, bytes: &[u8]) {
         let w = case.sheet.w;
         let mut offsets: Vec<usize> = (0..bytes.len()).step_by(w + 10).collect();
         offsets.extend((0..8).map(|_| rng.below(bytes.len() + 1)));
@@ -228,10 +228,10 @@ impl Wet {
         }
     }
 
-    fn note(&mut self, case: &WetCase, kept: Result<(), String>) {
+    fn note(&mut self, case: &RepairCase, kept: Result<(), String>) {
         if let Err(what) = kept {
             if self.wrong.len() < TOLD {
-                self.wrong.push(format!("{what} (--wet-case {})", case.seed));
+                self.wrong.push(format!("{what} (--repair-case {})", case.seed));
             }
         }
     }
@@ -599,7 +599,7 @@ fn of_rooms(rooms: [usize; 2], ample: &Tried) -> Vec<Feature> {
 // ---- one case to read
 
 /// Prints a case whole; gives the exit code.
-pub fn show_case(case: &WetCase) -> i32 {
+pub fn show_case(case: &RepairCase) -> i32 {
     let Sheet { bytes, w, reports } = &case.sheet;
     println!("W {w}, {reports} reports, {} bytes", bytes.len());
     show_file(bytes, *w);
@@ -607,7 +607,7 @@ pub fn show_case(case: &WetCase) -> i32 {
         println!("\ndamaged {kinds:?}, {} bytes", bytes.len());
         show_file(bytes, *w);
     }
-    let mut run = Wet::run(0, 0);
+    let mut run = Repairs::run(0, 0);
     run.play(case);
     for what in &run.wrong {
         println!("WRONG: {what}");
@@ -668,7 +668,7 @@ mod tests {
         let mut rng = Rng::new(50);
         let mut seen = 0;
         while seen < 10 * SPOILT.len() {
-            let case = wet_case(rng.draw());
+            let case = repair_case(rng.draw());
             let w = case.sheet.w;
             for Damaged { bytes, .. } in &case.copies {
                 let right = Tried::with_ample_room(&mut rng, bytes, w);
@@ -733,7 +733,7 @@ mod tests {
 
     #[test]
     fn the_same_seed_gives_the_same_files() {
-        let draw = |seed| (wet_case(seed).sheet, wet_case(seed).copies);
+        let draw = |seed| (repair_case(seed).sheet, repair_case(seed).copies);
         assert_eq!(draw(52), draw(52));
         assert_ne!(draw(52), draw(53));
     }
