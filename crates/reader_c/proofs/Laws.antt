@@ -39,9 +39,9 @@ pub step-told : (s : Step) (l : List ℕ) {p : Parts} {n x : ℕ} → length l �
 step-told s l {p = p} {n = n} {x = x} long e f g = seven l n x (p .kind) (p .page) (p .line) (p .text) (s .next) long ∙ rw (e, f, g) refl
 
 -- the numbers of a repair, told
-pub repair-told : (r : Repaired) (l : List ℕ) {c : Counts} {n : ℕ} → length l ≡ 4 → c ≡ countsOf r → n ≡ repair.number r
-    → set (set (set (set l 0 n) 1 0) 2 (c .copied)) 3 (c .listed) ≡ repairNumbers r
-repair-told r l {c = c} {n = n} long e f = four l n 0 (c .copied) (c .listed) long ∙ rw (e, f) refl
+pub repair-told : (r : Repaired) (l : List ℕ) {c : Counts} {n x : ℕ} → length l ≡ 4 → c ≡ countsOf r → n ≡ repair.number r → x ≡ repair.extra r
+    → set (set (set (set l 0 n) 1 x) 2 (c .copied)) 3 (c .listed) ≡ repairNumbers r
+repair-told r l {c = c} {n = n} {x = x} long e f g = four l n x (c .copied) (c .listed) long ∙ rw (e, f, g) refl
 
 -- what a repair leaves, told
 pub leaves : {sheet : List ℕ} {w : ℕ} {copy list copyNow listNow answer : List ℕ} {r : Repaired} → repair.Repairs sheet w copy list r copyNow listNow → answer ≡ repairNumbers r

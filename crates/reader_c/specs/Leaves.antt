@@ -32,9 +32,9 @@ countsOf (repaired.Done copied listed) = record { copied = copied; listed = list
 countsOf repaired.BadWidth = record { copied = 0; listed = 0 }
 countsOf repaired.NoRoom = record { copied = 0; listed = 0 }
 
--- the answer of a repair: number, extra number (it has none), bytes of the copy, bytes of the list
+-- the answer of a repair: number, extra number, bytes of the copy, bytes of the list
 abbrev pub repairNumbers : Repaired → List ℕ
-repairNumbers r = repair.number r ∷ 0 ∷ countsOf r .copied ∷ countsOf r .listed ∷ []
+repairNumbers r = repair.number r ∷ repair.extra r ∷ countsOf r .copied ∷ countsOf r .listed ∷ []
 
 -- what a repair leaves in the copy, in the list and in the answer: "with both buffers untouched" where it is refused
 pub record Leaves (sheet : List ℕ) (w : ℕ) (copy list copyNow listNow answer : List ℕ) : Type 0 where

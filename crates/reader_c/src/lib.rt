@@ -96,7 +96,7 @@ fn tell_repair(done: Repaired, answer: &mut [u64])
 {
     let c = counts_of(done);
     answer[0] = done.number();
-    answer[1] = 0;
+    answer[1] = done.extra();
     answer[2] = c.copied;
     answer[3] = c.listed;
 }

@@ -26,11 +26,17 @@ answer bytes w room roomList =
     (cond (fitsIn (repairedOf bytes w) room roomList) (Done (length (repairedOf bytes w .copy)) (length (repairedOf bytes w .list))) NoRoom)
     BadWidth
 
--- document 02's number; the extra number is 0, since it names none
+-- document 02's number; 0 where nothing is refused
 abbrev pub number : Repaired → ℕ
 number (Done copied listed) = 0
 number BadWidth = 12
 number NoRoom = 9
+
+-- "with extra number 0 where it names none"
+abbrev pub extra : Repaired → ℕ
+extra (Done copied listed) = 0
+extra BadWidth = 0
+extra NoRoom = 0
 
 -- what a buffer holds: the bytes from its start on, and behind them what it held; or, "with both buffers untouched", all that it held
 abbrev pub left : Repaired → List ℕ → List ℕ → List ℕ

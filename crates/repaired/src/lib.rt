@@ -7,7 +7,7 @@ ghost use Rattle.splice.specs.Splice.{Wrote};
 ghost use Rattle.reader.specs.Form.{recordBytes};
 ghost use Rattle.repaired.specs.Fate.{laterThan, ordered as orderedSpec, judged, fateAt, lastKept, blockAt, keptBytes, entry, droppedBytes, keptLength, droppedLength, PutsKept};
 ghost use Rattle.repaired.specs.Mend.{start as startSpec, countedAt, blockCount, tallyOf, mended, Mends, Mendable};
-ghost use Rattle.repaired.specs.Repair.{number as numberSpec, Repairs};
+ghost use Rattle.repaired.specs.Repair.{number as numberSpec, extra as extraSpec, Repairs};
 use reader::FRAME;
 use reader::Reading;
 
@@ -53,7 +53,7 @@ pub enum Repaired {
 }
 
 impl Repaired {
-    // The number of the refusal; 0 where there is none. The extra number is 0 for each.
+    // The number of the refusal; 0 where there is none.
     pub fn number(self) -> u64
         ensures { λ r. ⌜ r ≡ numberSpec self ⌝ }
     {
@@ -61,6 +61,17 @@ impl Repaired {
             Repaired::Done(_, _) => 0,
             Repaired::BadWidth => 12,
             Repaired::NoRoom => 9,
+        }
+    }
+
+    // The extra number: neither refusal names one.
+    pub fn extra(self) -> u64
+        ensures { λ r. ⌜ r ≡ extraSpec self ⌝ }
+    {
+        match self {
+            Repaired::Done(_, _) => 0,
+            Repaired::BadWidth => 0,
+            Repaired::NoRoom => 0,
         }
     }
 }

@@ -7,8 +7,8 @@ use Rattle.reader_c.proofs.tell_repair.Tie as tie
 
 returns : tie.Need-returns
 returns c =
-    let z = c .before .before .before in
-    repair-told (z .args .done) (z .args .answer .now) (z .pre) (c .before .counts-of .ensures) (c .number .ensures)
+    let z = c .before .before .before .before in
+    repair-told (z .args .done) (z .args .answer .now) (z .pre) (c .before .before .counts-of .ensures) (c .before .number .ensures) (c .extra .ensures)
 
 pub tell-repair-spec : {M : Type 1} → statement M
 tell-repair-spec =
@@ -17,6 +17,7 @@ tell-repair-spec =
     (λ c κs. search needs)
     (λ c κs. search needs)
     (λ c. search needs)
+    (λ c κs. search needs)
     (λ c. search needs)
     (λ c. search needs)
     (λ c. search needs)
