@@ -1,12 +1,12 @@
 //! `read` as a user runs it: printed sheets read back, up to the first record that is not well-formed.
 
 mod program;
-mod reading;
+mod read_back;
 
 use std::fs;
 
 use program::{example, Folder, Written};
-use reading::{fed, in_little_memory, part_of, run, sheet_of, status, text, width_in};
+use read_back::{fed, in_little_memory, part_of, run, sheet_of, status, text, width_in};
 use second::cases::repair_case;
 use second::read::{Read, Walker};
 
@@ -174,27 +174,27 @@ fn says_its_usage() {
         &["--fast"],
         &["--fast", "sheet"],
     ];
-    reading::says_its_usage("read", USAGE, HELP, &wrong);
+    read_back::says_its_usage("read", USAGE, HELP, &wrong);
 }
 
 #[test]
 fn says_a_width_that_it_refuses() {
-    reading::says_a_width_that_it_refuses("read");
+    read_back::says_a_width_that_it_refuses("read");
 }
 
 #[test]
 fn takes_an_empty_sheet() {
-    reading::takes_an_empty_sheet("read");
+    read_back::takes_an_empty_sheet("read");
 }
 
 #[test]
 fn names_a_file_that_it_cannot_read() {
-    reading::names_a_file_that_it_cannot_read("read");
+    read_back::names_a_file_that_it_cannot_read("read");
 }
 
 #[test]
 fn says_that_it_cannot_write() {
-    reading::says_that_it_cannot_write("read");
+    read_back::says_that_it_cannot_write("read");
 }
 
 // ---- the exit status, by `bin/read`

@@ -1,18 +1,18 @@
 //! `repair` as a user runs it: damaged sheets, what is kept of them and what is told, held to the second program.
 
 mod program;
-mod reading;
+mod read_back;
 
 use std::fs;
 use std::path::Path;
 
 use program::{example, Folder, Written};
-use reading::{fed, in_little_memory, part_of, run, sheet_of, status, text, width_in};
+use read_back::{fed, in_little_memory, part_of, run, sheet_of, status, text, width_in};
 use second::cases::damage::{damage, KINDS};
 use second::cases::{repair_case, Rng};
 use second::repair::{repaired, FORM};
 
-const USAGE: &str = "usage: repair [-o FILE] [W] SHEET|-\n";
+const USAGE: &str = "usage: repair [W] SHEET|- [-o FILE]\n";
 
 /// `--help` says this behind the usage.
 const HELP: &str = "
@@ -21,7 +21,8 @@ a later page, or a later line on the same page, than the last one kept. What is 
 line each, and at the end how many were kept and dropped; of a sheet without damage nothing is told. W is the width of
 the text, 1 to 132; where it is left out, the first line end of the sheet shows it. Records count from 1, bytes from 0.
 
-  -o FILE  put the repaired sheet into FILE, which is made for it: a file that is there already is left as it is
+  -o FILE  put the repaired sheet into FILE, which is made for it: a file that is there already is left as it is; the
+           option may stand in front too
   -        take the sheet from standard input (a file of this name is ./-)
   --help   print this
 ";
@@ -204,7 +205,14 @@ fn puts_the_copy_into_a_file() {
     let damaged = example("damaged.sheet");
     let out = folder.0.join("out");
     let expected = mended(&fs::read(&damaged).expect("the example"), 80);
-    for args in [&["-o", text(&out), text(&damaged)][..], &["-o", text(&out), "80", text(&damaged)]] {
+    let [file, sheet] = [text(&out), text(&damaged)];
+    let orders = [
+        &["-o", file, sheet][..],
+        &["-o", file, "80", sheet],
+        &[sheet, "-o", file],
+        &["80", sheet, "-o", file],
+    ];
+    for args in orders {
         assert_eq!(run("repair", args), Written::errors(expected.errors.clone()));
         assert!(fs::read(&out).expect("the copy") == expected.sheet);
         fs::remove_file(&out).expect("the copy");
@@ -266,31 +274,31 @@ fn says_its_usage() {
         &["-o", "out", "80", "sheet", "more"],
         &["-o", "out", "W", "sheet"],
         &["-o", "out", "-o", "sheet"],
-        &["sheet", "-o", "out"],
+        &["80", "sheet", "more", "-o", "out"],
     ];
-    reading::says_its_usage("repair", USAGE, HELP, &wrong);
+    read_back::says_its_usage("repair", USAGE, HELP, &wrong);
     assert!(!Path::new("out").exists());
 }
 
 #[test]
 fn says_a_width_that_it_refuses() {
-    reading::says_a_width_that_it_refuses("repair");
+    read_back::says_a_width_that_it_refuses("repair");
 }
 
 #[test]
 fn takes_an_empty_sheet() {
-    reading::takes_an_empty_sheet("repair");
+    read_back::takes_an_empty_sheet("repair");
 }
 
 #[test]
 fn names_a_file_that_it_cannot_read() {
-    reading::names_a_file_that_it_cannot_read("repair");
+    read_back::names_a_file_that_it_cannot_read("repair");
 }
 
 /// Then no count is told.
 #[test]
 fn says_that_it_cannot_write() {
-    reading::says_that_it_cannot_write("repair");
+    read_back::says_that_it_cannot_write("repair");
 }
 
 // ---- the exit status, by `bin/repair`

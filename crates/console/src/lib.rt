@@ -38,7 +38,7 @@ fn usage(p: Program, fd: i32) {
             io::write_all(fd, b"usage: read [W] SHEET|-\n");
         }
         Program::Repair => {
-            io::write_all(fd, b"usage: repair [-o FILE] [W] SHEET|-\n");
+            io::write_all(fd, b"usage: repair [W] SHEET|- [-o FILE]\n");
         }
     }
 }
@@ -85,7 +85,7 @@ fn read_help(fd: i32) {
 fn repair_help(fd: i32) {
     io::write_all(
         fd,
-        b"\nPrints a damaged sheet without its damage: of each W + 10 bytes from the start, those that are a well-formed record with\na later page, or a later line on the same page, than the last one kept. What is dropped is told on standard error, a\nline each, and at the end how many were kept and dropped; of a sheet without damage nothing is told. W is the width of\nthe text, 1 to 132; where it is left out, the first line end of the sheet shows it. Records count from 1, bytes from 0.\n\n  -o FILE  put the repaired sheet into FILE, which is made for it: a file that is there already is left as it is\n  -        take the sheet from standard input (a file of this name is ./-)\n  --help   print this\n",
+        b"\nPrints a damaged sheet without its damage: of each W + 10 bytes from the start, those that are a well-formed record with\na later page, or a later line on the same page, than the last one kept. What is dropped is told on standard error, a\nline each, and at the end how many were kept and dropped; of a sheet without damage nothing is told. W is the width of\nthe text, 1 to 132; where it is left out, the first line end of the sheet shows it. Records count from 1, bytes from 0.\n\n  -o FILE  put the repaired sheet into FILE, which is made for it: a file that is there already is left as it is; the\n           option may stand in front too\n  -        take the sheet from standard input (a file of this name is ./-)\n  --help   print this\n",
     );
 }
 

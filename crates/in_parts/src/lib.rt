@@ -121,11 +121,11 @@ fn with_width(p: Program, i: usize) -> Asked
     }
 }
 
-// The arguments from `first` on: the sheet, or its width and the sheet; what is wrong is told.
-pub fn arguments(p: Program, first: usize) -> Asked
+// The arguments from `first` on up to `end`: the sheet, or its width and the sheet; what is wrong is told.
+pub fn arguments(p: Program, first: usize, end: usize) -> Asked
     ensures { λ r. ⌜ r .w ≤ lineMax ⌝ }
 {
-    let n = std::num::wrapping_sub_usize(os::arg_count(), first);
+    let n = std::num::wrapping_sub_usize(end, first);
     let is_option = console::is_option(first) && !console::is_word(first, b"-");
     if (n == 2) & !is_option {
         return with_width(p, first);

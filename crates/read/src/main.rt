@@ -153,7 +153,7 @@ fn main() {
     if console::is_helped(Program::Read) {
         return;
     }
-    let a = in_parts::arguments(Program::Read, 1);
+    let a = in_parts::arguments(Program::Read, 1, os::arg_count());
     if a.is_right {
         read_sheet(a);
     }

@@ -11,16 +11,21 @@ use repaired::ENTRY_SIZE;
 use repaired::Front;
 use words::Program;
 
-// The argument behind `-o`.
-const FILE: usize = 2;
-
 // More parts than the longest file has.
 const TURNS: usize = 281_474_976_710_656;
 
-// The width of the sheet, and the descriptor that the copy goes to.
+// Which argument names the file for the copy, 0 where none does, and from where to where the others stand.
+struct Named {
+    file: usize,
+    first: usize,
+    end: usize,
+}
+
+// The width of the sheet, the descriptor that the copy goes to, and the argument that names its file.
 struct Job {
     w: usize,
     out: i32,
+    file: usize,
 }
 
 // How many records are kept, how many dropped for their form and for their order, and whether the copy is written.
@@ -87,9 +92,9 @@ fn say_account(a: Account) {
 
 // ---- the copy
 // Makes the file for it, which must not be there yet, so that none is lost; tells where it cannot.
-fn made() -> i32 {
+fn made(file: usize) -> i32 {
     let mut path = io::buffer();
-    let n = os::arg(FILE, &mut path);
+    let n = os::arg(file, &mut path);
     let fd = os::create(&path[..n]);
     if fd < 0 {
         console::failure(Program::Repair, &path[..n]);
@@ -98,13 +103,13 @@ fn made() -> i32 {
 }
 
 // Writes a part of it; answers whether it could, and tells where not.
-fn put_copy(out: i32, bytes: &[u8]) -> bool {
-    if out == STDOUT_FILENO {
+fn put_copy(j: Job, bytes: &[u8]) -> bool {
+    if j.out == STDOUT_FILENO {
         return console::flush(Program::Repair, bytes, bytes.len());
     }
     let mut path = io::buffer();
-    let n = os::arg(FILE, &mut path);
-    let is_written = io::write_all(out, bytes);
+    let n = os::arg(j.file, &mut path);
+    let is_written = io::write_all(j.out, bytes);
     if !is_written {
         console::failure(Program::Repair, &path[..n]);
     }
@@ -117,7 +122,7 @@ fn entered(j: Job, a: Account, end: usize, copy: &[u8], list: &[u8]) -> Account
     requires { ⌜ j .w ≤ lineMax ⌝ }
 {
     let size = j.w + FRAME;
-    if !put_copy(j.out, copy) {
+    if !put_copy(j, copy) {
         return Account {
             kept: a.kept,
             form: a.form,
@@ -177,10 +182,9 @@ fn begun() -> Work
 }
 
 // All records, of which so many bytes are in hand.
-fn mend_all(s: Sheet, out: i32, start: usize, buffer: &mut [u8]) -> Account
-    requires { ⌜ s .w ≤ lineMax ⌝ }
+fn mend_all(s: Sheet, j: Job, start: usize, buffer: &mut [u8]) -> Account
+    requires { ⌜ (s .w ≤ lineMax) × (j .w ≤ lineMax) ⌝ }
 {
-    let j = Job { w: s.w, out };
     let mut work = begun();
     let mut held = start;
     let mut turns = TURNS;
@@ -196,20 +200,21 @@ fn mend_all(s: Sheet, out: i32, start: usize, buffer: &mut [u8]) -> Account
 
 // ---- files and arguments
 // An open sheet whose width is known.
-fn mend_sheet(s: Sheet, is_named: bool, held: usize, buffer: &mut [u8])
+fn mend_sheet(s: Sheet, file: usize, held: usize, buffer: &mut [u8])
     requires { ⌜ s .w ≤ lineMax ⌝ }
 {
-    let out = if is_named { made() } else { STDOUT_FILENO };
+    let out = if file > 0 { made(file) } else { STDOUT_FILENO };
     if out < 0 {
         return;
     }
-    let a = mend_all(s, out, held, buffer);
+    let j = Job { w: s.w, out, file };
+    let a = mend_all(s, j, held, buffer);
     if a.is_written {
         say_account(a);
     }
 }
 
-fn mend_file(a: Asked, is_named: bool)
+fn mend_file(a: Asked, file: usize)
     requires { ⌜ a .w ≤ lineMax ⌝ }
 {
     let fd = in_parts::opened(Program::Repair, a.sheet);
@@ -225,7 +230,32 @@ fn mend_file(a: Asked, is_named: bool)
             fd,
             w: start.w,
         };
-        mend_sheet(s, is_named, start.held, &mut buffer);
+        mend_sheet(s, file, start.held, &mut buffer);
+    }
+}
+
+// The option stands in front of the other arguments or behind them.
+fn arguments() -> Named {
+    let n = os::arg_count();
+    if console::is_word(1, b"-o") {
+        return Named {
+            file: 2,
+            first: 3,
+            end: n,
+        };
+    }
+    let at = std::num::wrapping_sub_usize(n, 2);
+    if (n > 3) && console::is_word(at, b"-o") {
+        return Named {
+            file: std::num::wrapping_add_usize(at, 1),
+            first: 1,
+            end: at,
+        };
+    }
+    Named {
+        file: 0,
+        first: 1,
+        end: n,
     }
 }
 
@@ -233,10 +263,9 @@ fn main() {
     if console::is_helped(Program::Repair) {
         return;
     }
-    let is_named = console::is_word(1, b"-o");
-    let first = 1 + 2 * counts::one_if(is_named);
-    let a = in_parts::arguments(Program::Repair, first);
+    let o = arguments();
+    let a = in_parts::arguments(Program::Repair, o.first, o.end);
     if a.is_right {
-        mend_file(a, is_named);
+        mend_file(a, o.file);
     }
 }

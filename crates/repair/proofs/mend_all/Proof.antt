@@ -10,10 +10,10 @@ use Rattle.repair.proofs.mend_all.Statement.{statement}
 use Rattle.repair.proofs.mend_all.Tie as tie
 
 abbrev Inv-loop : tie.InvT-loop
-Inv-loop s out start buffer₀ j work₀ held₀ turns₀ buffer work held turns = (length buffer ≡ length buffer₀) × (work .front .offset + turns * 32768 ≤ 9223372036854775808)
+Inv-loop s j start buffer₀ work₀ held₀ turns₀ buffer work held turns = (length buffer ≡ length buffer₀) × (work .front .offset + turns * 32768 ≤ 9223372036854775808)
 
 abbrev μ-loop : tie.MeasureT-loop
-μ-loop s out start buffer₀ j work₀ held₀ turns₀ buffer work held turns = turns
+μ-loop s j start buffer₀ work₀ held₀ turns₀ buffer work held turns = turns
 
 part : tie.Need-slice-aggregate-mend-part Inv-loop μ-loop
 part c = sym (length-take-le _ _ (omega arith))
@@ -30,7 +30,7 @@ mend-all-spec =
     (λ c κs. search needs)
     (λ c. omega arith)
     part
-    (λ c κs. (c .before .before .before .before .before .before .before .before .before .before .pre, omega (arith, part c), omega arith))
+    (λ c κs. (c .before .before .before .before .before .before .before .before .before .before .pre .1, omega (arith, part c), omega arith))
     (λ c. omega arith)
     (λ c. (omega arith, omega arith))
     (λ c. omega arith)
