@@ -1,4 +1,4 @@
--- What is claimed of the repair, for every sheet: what it keeps, what it drops, and that it is done at once.
+-- What is claimed of the repair, for every sheet: what it keeps, what it drops, and that once is enough. Not asked by document 02 in these words.
 use Prim.Native.Nat.{ℕ, _+_, _*_}
 use mathlib.Core.Path.{_≡_}
 use mathlib.Core.Bool.{cond}
@@ -35,20 +35,20 @@ module _ (bytes : List ℕ) (w : ℕ) where
   abbrev size : ℕ
   size = recordBytes w
 
-  -- "Repair: what is kept is well-formed and rises": the copy is the records of legible lines, each behind the one before it
+  -- "keeps records that are well-formed and have a later page, or a later line on the same page, than the last kept one": the copy is the records of such lines
   pub record Kept : Type 0 where
     pub lines : List Line
     pub legible : All (Legible w) lines
     pub rises : InOrder 0 0 lines
     pub copy : repairedOf bytes w .copy ≡ records noPrefix w lines
 
-  -- "kept and dropped together are the file, in order": of each block one of the two has all, the other nothing
+  -- "lists what it drops": kept and dropped together are the file, in order; of each block one of the two has all, the other nothing
   pub record Together : Type 0 where
     pub file : joinBelow n (λ k. keptBytes bytes (k * size) size (fateOf bytes w k) ++ droppedBlock bytes (k * size) size (fateOf bytes w k)) ≡ bytes
     pub copy : repairedOf bytes w .copy ≡ joinBelow n (λ k. keptBytes bytes (k * size) size (fateOf bytes w k))
     pub list : repairedOf bytes w .list ≡ joinBelow n (λ k. droppedBytes (k * size) (fateOf bytes w k))
 
-  -- "repairing a repaired file changes nothing"
+  -- a repaired file repaired again is the same, and nothing is dropped of it
   pub record Once : Type 0 where
     pub copy : repairedOf (repairedOf bytes w .copy) w .copy ≡ repairedOf bytes w .copy
     pub list : repairedOf (repairedOf bytes w .copy) w .list ≡ []
