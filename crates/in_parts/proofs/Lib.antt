@@ -1,2 +1,0 @@
--- A law of widths.
-pub mod Laws
