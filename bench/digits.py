@@ -4,7 +4,7 @@
 Instructions: callgrind's count inside the call, its own callees included, by the calls. They do not depend on what else
 the machine does. It needs valgrind, the static libraries and the programs of compare/:
 
-    for library in report_c feeder_c printed_c; do rt staticlib $library; done
+    bin/static_libraries
     cargo build --offline --release --manifest-path compare/Cargo.toml"""
 import argparse
 import os

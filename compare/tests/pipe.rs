@@ -8,7 +8,6 @@ use std::fs::{self, File};
 use std::io::{Read, Write};
 use std::os::fd::OwnedFd;
 use std::os::unix::net::UnixDatagram;
-use std::os::unix::process::ExitStatusExt;
 use std::path::{Path, PathBuf};
 use std::process::{Child, Command, ExitStatus, Output, Stdio};
 use std::sync::mpsc::{self, Receiver, RecvTimeoutError};
@@ -337,7 +336,17 @@ fn unread(mut command: Command, rows: &[u8]) -> (ExitStatus, String) {
     (status, errors)
 }
 
-/// As with a file: the kernel ends it, or the failure is told where the signal is ignored. Its input is still open.
+/// The same program and arguments, with the signal of a closed pipe ignored.
+fn ignoring(program: &Command, desc: &Path, records: &OsStr) -> Command {
+    let mut command = Command::new("sh");
+    let ignore = "trap '' PIPE; exec \"$@\"";
+    command.args(["-c", ignore, "sh"]).arg(program.get_program()).args(program.get_args());
+    command.arg(desc).arg(records);
+    command
+}
+
+/// As with a file: the program tells the failure and ends; the command ends as by the signal, or tells it where the signal is ignored. The
+/// input is still open.
 #[test]
 fn ends_when_nobody_reads_its_output() {
     let [desc, file] = ["whole_run.desc", "whole_run.rows"].map(example);
@@ -346,25 +355,19 @@ fn ends_when_nobody_reads_its_output() {
         let mut plain = command();
         plain.arg(&desc).arg(records);
         let (status, errors) = unread(plain, &rows);
-        assert_eq!((status.signal(), errors.as_str()), (Some(SIGPIPE), ""), "{records:?}");
+        let broken = "sheet: standard output: Broken pipe\n";
+        assert_eq!((status.code(), errors.as_str()), (Some(0), broken), "{records:?}");
 
-        let mut ignored = Command::new("sh");
-        ignored
-            .args(["-c", "trap '' PIPE; exec \"$@\"", "sh"])
-            .arg(command().get_program())
-            .arg(&desc)
-            .arg(records);
-        let (status, errors) = unread(ignored, &rows);
-        assert_eq!(
-            (status.code(), errors.as_str()),
-            (Some(0), "sheet: standard output: Broken pipe\n"),
-            "{records:?}"
-        );
+        let (status, errors) = unread(ignoring(&command(), &desc, records), &rows);
+        assert_eq!((status.code(), errors.as_str()), (Some(0), broken), "{records:?}");
 
         let mut by_bin = bin_sheet();
         by_bin.arg(&desc).arg(records);
         let (status, errors) = unread(by_bin, &rows);
         assert_eq!((status.code(), errors.as_str()), (Some(128 + SIGPIPE), ""), "{records:?}");
+
+        let (status, errors) = unread(ignoring(&bin_sheet(), &desc, records), &rows);
+        assert_eq!((status.code(), errors.as_str()), (Some(1), broken), "{records:?}");
     }
 }
 
