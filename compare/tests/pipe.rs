@@ -3,7 +3,7 @@
 
 mod program;
 
-use std::ffi::OsStr;
+use std::ffi::{OsStr, OsString};
 use std::fs::{self, File};
 use std::io::{Read, Write};
 use std::os::fd::OwnedFd;
@@ -368,6 +368,26 @@ fn ends_when_nobody_reads_its_output() {
 
         let (status, errors) = unread(ignoring(&bin_sheet(), &desc, records), &rows);
         assert_eq!((status.code(), errors.as_str()), (Some(1), broken), "{records:?}");
+    }
+}
+
+/// The other commands that print: nothing is told, and the status is the signal's.
+#[test]
+fn commands_end_quietly_when_nobody_reads_their_output() {
+    let [desc, rows, sheet] =
+        ["day_sheet.desc", "day_sheet.rows", "day_sheet.sheet"].map(|name| example(name).into_os_string());
+    let words = |words: &[&str]| words.iter().map(OsString::from).collect::<Vec<_>>();
+    let commands = [
+        ("explain", [vec![desc.clone(), rows.clone()], words(&["1", "21"])].concat()),
+        ("sheets", [vec![desc], words(&["NQ"]), vec![rows.clone()], words(&["SQ"]), vec![rows]].concat()),
+        ("read", vec![sheet.clone()]),
+        ("repair", vec![sheet]),
+    ];
+    for (name, args) in commands {
+        let mut command = Command::new(Path::new(env!("CARGO_MANIFEST_DIR")).join("../bin").join(name));
+        command.args(args);
+        let (status, errors) = unread(command, b"");
+        assert_eq!((status.code(), errors.as_str()), (Some(128 + SIGPIPE), ""), "{name}");
     }
 }
 
