@@ -384,7 +384,9 @@ fn commands_end_quietly_when_nobody_reads_their_output() {
         ("repair", vec![sheet]),
     ];
     for (name, args) in commands {
-        let mut command = Command::new(Path::new(env!("CARGO_MANIFEST_DIR")).join("../bin").join(name));
+        let root = Path::new(env!("CARGO_MANIFEST_DIR")).join("..");
+        assert!(root.join("target/bin").join(name).exists(), "target/bin/{name} is not built");
+        let mut command = Command::new(root.join("bin").join(name));
         command.args(args);
         let (status, errors) = unread(command, b"");
         assert_eq!((status.code(), errors.as_str()), (Some(128 + SIGPIPE), ""), "{name}");
