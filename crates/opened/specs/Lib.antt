@@ -1,0 +1,2 @@
+-- The tables of a description that CHECK accepts.
+pub mod Opened
